@@ -1,0 +1,38 @@
+-- What an operation answers (01, "Numbered reasons"), and what it leaves in the bytes that it was lent.
+-- Assumes nothing.
+use mathlib.Core.Path.{_≡_}
+use mathlib.Core.List.{List}
+use Prim.Native.Nat.{ℕ}
+use Rattle.reason.specs.declared.Outcome.{Outcome}
+use Rattle.reason.specs.declared.Outcome.the-variants.{Accepted, Refused}
+
+-- the values of an accepted operation, or the number of the reason and no other value
+pub data Answer (A : Type 0) : Type 0 where
+  accepted : A → Answer A
+  refused : ℕ → Answer A
+
+-- what is told of the values: a part of them, or what follows from them
+abbrev pub telling : {A B : Type 0} → (A → B) → Answer A → Answer B
+telling f (accepted a) = accepted (f a)
+telling f (refused n) = refused n
+
+-- a lent list at exit: what the accepted values make of it; a refusal changes no lent byte
+abbrev pub leaving : {A : Type 0} → (A → List ℕ) → List ℕ → Answer A → List ℕ
+leaving f lent (accepted a) = f a
+leaving f lent (refused n) = lent
+
+-- the first answer where it refuses, and else the second
+abbrev pub andThen : {A B : Type 0} → Answer A → Answer B → Answer B
+andThen (accepted a) next = next
+andThen (refused n) next = refused n
+
+-- the paper's number and values for each case of an `Outcome`
+abbrev pub outcome : Outcome → Answer Unit
+outcome Accepted = accepted tt
+outcome (Refused n) = refused n
+
+-- The promise of an operation that writes to one lent list and has no value to tell. `made` is the list that it makes of
+-- `lent`, or its refusal; `r` is what the function answers and `left` is what it leaves.
+pub record Wrote (lent : List ℕ) (made : Answer (List ℕ)) (r : Outcome) (left : List ℕ) : Type 0 where
+  pub answer : outcome r ≡ telling (λ l. tt) made
+  pub bytes : left ≡ leaving (λ l. l) lent made

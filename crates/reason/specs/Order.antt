@@ -1,0 +1,27 @@
+-- The reasons of an operation in their order (01, "Numbered reasons"), as a list of checks.
+-- Assumes nothing.
+use mathlib.Core.Path.{_≡_}
+use mathlib.Core.Bool.{Bool, true, false, cond}
+use mathlib.Core.Logic.{_⊎_}
+use mathlib.Core.List.{List, [], _∷_}
+use Prim.Native.Nat.{ℕ}
+use Rattle.reason.specs.Answer.{Answer, accepted, refused}
+
+-- a test, and the number that is given when it holds
+pub data Check : Type 0 where
+  check : Bool → ℕ → Check
+
+-- the number of the first check that holds; where none does, the value
+unfoldable pub firstOf : {A : Type 0} → List Check → A → Answer A
+firstOf [] a = accepted a
+firstOf (check holds n ∷ checks) a = cond holds (refused n) (firstOf checks a)
+
+-- a check with the number n holds, and none before it does
+abbrev pub First : ℕ → List Check → Type 0
+First n [] = ⊥
+First n (check holds m ∷ checks) = ((holds ≡ true) × (m ≡ n)) ⊎ ((holds ≡ false) × First n checks)
+
+-- no check holds
+abbrev pub NoneHolds : List Check → Type 0
+NoneHolds [] = Unit
+NoneHolds (check holds n ∷ checks) = (holds ≡ false) × NoneHolds checks
