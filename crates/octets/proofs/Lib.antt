@@ -1,0 +1,3 @@
+pub mod RunLaws
+pub mod NumberLaws
+pub mod OnlyOne

@@ -1,0 +1,87 @@
+-- Laws of a run written into a list: what stands where, the length stays, and two neighbours are one run.
+-- Assumes nothing.
+use mathlib.Core.Path.{_≡_, refl, sym, ap, ap₂, _∙_}
+use mathlib.Core.Bool.{Bool, true, false, cond}
+use mathlib.Core.List.{List, [], _∷_, _++_, append-assoc}
+use Prim.Native.Nat.{ℕ, _+_, _-_, _≤_, _<_}
+use native.Mathlib.Nat.{add-assoc, add-zero}
+use native.Mathlib.Omega.{arith}
+use lib.ListN.{length, getD, take, drop, length-append, length-drop, take-append-drop, List·getD-append}
+use lib.Seq.{length-take-le, take-at, drop-at, drop-drop, drop-append-add, getD-append-add, getD-take, getD-drop}
+use borrow.Author.Tests.{le-leb, lt-leb}
+use Rattle.octets.specs.Runs.{fits, putIn, Put}
+
+module _ (out : List ℕ) (at : ℕ) (run : List ℕ) where
+  -- what a caller learns of `put`: with room, the run is written; without, nothing changes
+  pub put-fits : (r : Bool) (left : List ℕ) → Put out at run r left → at + length run ≤ length out → (r ≡ true) × (left ≡ putIn out at run)
+  put-fits r left p h =
+      let e : fits out at run ≡ true = le-leb (at + length run) (length out) h in
+      (p .answer ∙ e, p .bytes ∙ ap (λ (b : Bool). cond b (putIn out at run) out) e)
+
+  pub put-short : (r : Bool) (left : List ℕ) → Put out at run r left → length out < at + length run → (r ≡ false) × (left ≡ out)
+  put-short r left p h =
+      let e : fits out at run ≡ false = lt-leb (at + length run) (length out) h in
+      (p .answer ∙ e, p .bytes ∙ ap (λ (b : Bool). cond b (putIn out at run) out) e)
+
+module _ (out : List ℕ) (at : ℕ) (run : List ℕ) (h : at + length run ≤ length out) where
+  -- what stands before the end of the run
+  front : List ℕ
+  front = take at out ++ run
+
+  front-length : length front ≡ at + length run
+  unfolding front
+  front-length = length-append (take at out) run ∙ ap (λ (n : ℕ). n + length run) (length-take-le at out (omega arith))
+
+  pub put-length : length (putIn out at run) ≡ length out
+  unfolding putIn front
+  put-length = length-append front (drop (at + length run) out) ∙ ap₂ (λ (x y : ℕ). x + y) front-length (length-drop (at + length run) out) ∙ (omega arith)
+
+  -- the front and the rest, as lists
+  pub put-take : take (at + length run) (putIn out at run) ≡ take at out ++ run
+  unfolding putIn front
+  put-take = take-at front (drop (at + length run) out) (at + length run) front-length
+
+  pub put-drop : (k : ℕ) → drop (at + length run + k) (putIn out at run) ≡ drop (at + length run + k) out
+  unfolding putIn front
+  put-drop k =
+      ap (λ (n : ℕ). drop (n + k) (front ++ drop (at + length run) out)) (sym front-length)
+      ∙ drop-append-add front (drop (at + length run) out) k
+      ∙ drop-drop k (at + length run) out
+
+  -- the byte at each place: before the run, in it, and after it
+  pub put-before : (i : ℕ) → i < at → getD (putIn out at run) i 0 ≡ getD out i 0
+  unfolding putIn front
+  put-before i l =
+      List·getD-append front (drop (at + length run) out) 0 i (omega (arith, front-length))
+      ∙ List·getD-append (take at out) run 0 i (omega (arith, length-take-le at out (omega arith)))
+      ∙ getD-take at out i 0 l
+
+  pub put-within : (k : ℕ) → k < length run → getD (putIn out at run) (at + k) 0 ≡ getD run k 0
+  unfolding putIn front
+  put-within k l =
+      List·getD-append front (drop (at + length run) out) 0 (at + k) (omega (arith, front-length))
+      ∙ ap (λ (n : ℕ). getD (take at out ++ run) (n + k) 0) (sym (length-take-le at out (omega arith)))
+      ∙ getD-append-add (take at out) run k 0
+
+  pub put-after : (k : ℕ) → getD (putIn out at run) (at + length run + k) 0 ≡ getD out (at + length run + k) 0
+  unfolding putIn front
+  put-after k =
+      ap (λ (n : ℕ). getD (front ++ drop (at + length run) out) (n + k) 0) (sym front-length)
+      ∙ getD-append-add front (drop (at + length run) out) k 0
+      ∙ getD-drop (at + length run) out k 0
+
+-- two runs, one after the other, are one run
+pub put-put : (out : List ℕ) (at : ℕ) (a b : List ℕ) → at + length a + length b ≤ length out → putIn (putIn out at a) (at + length a) b ≡ putIn out at (a ++ b)
+unfolding putIn
+put-put out at a b h =
+    ap₂ (λ (x y : List ℕ). x ++ b ++ y) (put-take out at a (omega arith)) (put-drop out at a (omega arith) (length b))
+    ∙ ap₂ (λ (x : List ℕ) (n : ℕ). x ++ drop n out) (append-assoc (take at out) a b) (add-assoc at (length a) (length b) ∙ ap (λ (n : ℕ). at + n) (sym (length-append a b)))
+
+-- a run that stands there already changes nothing
+pub put-same : (out : List ℕ) (at : ℕ) (run : List ℕ) → take (length run) (drop at out) ≡ run → putIn out at run ≡ out
+unfolding putIn
+put-same out at run e =
+    append-assoc (take at out) run (drop (at + length run) out)
+    ∙ ap₂ (λ (x y : List ℕ). take at out ++ (x ++ y)) (sym e) (sym (drop-drop (length run) at out))
+    ∙ ap (λ (l : List ℕ). take at out ++ l) (take-append-drop (length run) (drop at out))
+    ∙ take-append-drop at out
