@@ -1,0 +1,20 @@
+-- What stands at each place of the list that a rule makes: a rule that is tested over a whole list holds at each entry.
+-- Assumes nothing.
+use mathlib.Core.Path.{_≡_, refl, sym, ap, _∙_}
+use mathlib.Core.List.{List, [], _∷_}
+use Prim.Native.Nat.{ℕ, zero, suc, _+_, _<_}
+use native.Mathlib.Nat.{add-zero, zero-add, add-suc, suc-add, le-of-suc-le-suc, not-suc-le-zero}
+use lib.ListN.{getD}
+use Rattle.remainder.specs.ByteList.{valuesFrom}
+
+from : {A : Type 0} (f : ℕ → A) (d : A) (i n k : ℕ) → k < n → getD (valuesFrom f i n) k d ≡ f (i + k)
+from f d i zero k h = absurd (not-suc-le-zero h)
+from f d i (suc n) zero h = ap f (sym (add-zero i))
+from f d i (suc n) (suc k) h = from f d (suc i) n k (le-of-suc-le-suc h) ∙ ap f (suc-add i k ∙ sym (add-suc i k))
+
+pub value-at : {A : Type 0} (f : ℕ → A) (d : A) (n k : ℕ) → k < n → getD (valuesFrom f 0 n) k d ≡ f k
+value-at f d n k h = from f d 0 n k h ∙ ap f (zero-add k)
+
+-- two rules whose lists are the same agree at each place
+pub same-values : {A : Type 0} (f g : ℕ → A) (n k : ℕ) → valuesFrom f 0 n ≡ valuesFrom g 0 n → k < n → f k ≡ g k
+same-values f g n k e h = sym (value-at f (f 0) n k h) ∙ ap (λ (l : List _). getD l k (f 0)) e ∙ value-at g (f 0) n k h

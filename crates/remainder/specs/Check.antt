@@ -1,0 +1,14 @@
+-- The two check bytes at the end of an information field (01, "Frame").
+-- Assumes nothing.
+use mathlib.Core.Bool.{Bool, _&&_}
+use mathlib.Core.List.{List}
+use Prim.Native.Nat.{ℕ, _+_, _*_, _-_}
+use lib.Dec.{leb, eqb}
+use lib.ListN.{length, getD, take}
+use Rattle.remainder.specs.Remainder.{remainderOf}
+
+-- there are two last bytes, and they are, high byte first, the remainder of all before them
+unfoldable pub checkRight : List ℕ → Bool
+checkRight s =
+    let n = length s - 2 in
+    leb 2 (length s) && eqb (remainderOf (take n s)) (getD s n 0 * 256 + getD s (n + 1) 0)
