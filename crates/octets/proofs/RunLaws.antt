@@ -7,7 +7,7 @@ use Prim.Native.Nat.{ℕ, _+_, _-_, _≤_, _<_}
 use native.Mathlib.Nat.{add-assoc, add-zero}
 use native.Mathlib.Omega.{arith}
 use lib.ListN.{length, getD, take, drop, length-append, length-drop, take-append-drop, List·getD-append}
-use lib.Seq.{length-take-le, take-at, drop-at, drop-drop, drop-append-add, getD-append-add, getD-take, getD-drop}
+use lib.Seq.{length-take-le, take-at, drop-at, drop-drop, drop-append-add, getD-append-add, getD-take, getD-drop, ext-getD}
 use borrow.Author.Tests.{le-leb, lt-leb}
 use Rattle.octets.specs.Runs.{fits, putIn, Put}
 
@@ -22,6 +22,17 @@ module _ (out : List ℕ) (at : ℕ) (run : List ℕ) where
   put-short r left p h =
       let e : fits out at run ≡ false = lt-leb (at + length run) (length out) h in
       (p .answer ∙ e, p .bytes ∙ ap (λ (b : Bool). cond b (putIn out at run) out) e)
+
+  -- .. and of its answer: it says whether there was room
+  pub put-done : (r : Bool) (left : List ℕ) → Put out at run r left → r ≡ true → (fits out at run ≡ true) × (left ≡ putIn out at run)
+  put-done r left p e =
+      let f : fits out at run ≡ true = sym (p .answer) ∙ e in
+      (f, p .bytes ∙ ap (λ (b : Bool). cond b (putIn out at run) out) f)
+
+  pub put-not : (r : Bool) (left : List ℕ) → Put out at run r left → r ≡ false → (fits out at run ≡ false) × (left ≡ out)
+  put-not r left p e =
+      let f : fits out at run ≡ false = sym (p .answer) ∙ e in
+      (f, p .bytes ∙ ap (λ (b : Bool). cond b (putIn out at run) out) f)
 
 module _ (out : List ℕ) (at : ℕ) (run : List ℕ) (h : at + length run ≤ length out) where
   -- what stands before the end of the run
@@ -76,6 +87,16 @@ unfolding putIn
 put-put out at a b h =
     ap₂ (λ (x y : List ℕ). x ++ b ++ y) (put-take out at a (omega arith)) (put-drop out at a (omega arith) (length b))
     ∙ ap₂ (λ (x : List ℕ) (n : ℕ). x ++ drop n out) (append-assoc (take at out) a b) (add-assoc at (length a) (length b) ∙ ap (λ (n : ℕ). at + n) (sym (length-append a b)))
+
+-- a part of a list is a run exactly if it has the run's bytes
+pub part-is : (s : List ℕ) (at : ℕ) (run : List ℕ) → at + length run ≤ length s → ((k : ℕ) → k < length run → getD s (at + k) 0 ≡ getD run k 0) → take (length run) (drop at s) ≡ run
+part-is s at run h e =
+    let size : length (take (length run) (drop at s)) ≡ length run = length-take-le (length run) (drop at s) (simp length-drop (omega arith)) in
+    ext-getD 0 (take (length run) (drop at s)) run size (λ k l. getD-take (length run) (drop at s) k 0 (omega arith) ∙ getD-drop at s k 0 ∙ e k (omega arith))
+
+-- a run that was written stands there
+pub put-part : (out : List ℕ) (at : ℕ) (run : List ℕ) → at + length run ≤ length out → take (length run) (drop at (putIn out at run)) ≡ run
+put-part out at run h = part-is (putIn out at run) at run (omega (arith, put-length out at run h)) (put-within out at run h)
 
 -- a run that stands there already changes nothing
 pub put-same : (out : List ℕ) (at : ℕ) (run : List ℕ) → take (length run) (drop at out) ≡ run → putIn out at run ≡ out

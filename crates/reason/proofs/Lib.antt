@@ -1,2 +1,4 @@
+pub mod Bools
 pub mod OrderLaws
 pub mod OnlyOne
+pub mod Writing

@@ -1,0 +1,54 @@
+-- Laws of writing an address and a head: which of the reasons, or what is written.
+-- Assumes nothing.
+use mathlib.Core.Path.{_≡_, refl, sym, ap, _∙_}
+use mathlib.Core.Bool.{Bool, true, false, not, _&&_}
+use mathlib.Core.List.{List, [], _∷_, _++_}
+use mathlib.Core.Logic.{inl, inr}
+use Prim.Native.Nat.{ℕ, _+_, _≤_, _<_}
+use native.Mathlib.Omega.{arith}
+use lib.Dec.{ltb}
+use lib.ListN.{length}
+use borrow.Author.Tests.{lt-ltb, le-ltb, le-leb}
+use Rattle.reason.specs.Answer.{Answer, accepted, refused}
+use Rattle.reason.specs.Order.{check, firstOf}
+use Rattle.reason.proofs.OrderLaws.{skip, stop, none-left}
+use Rattle.octets.specs.Runs.{fits, putIn}
+use Rattle.octets.proofs.RunLaws.{put-put, put-length}
+use Rattle.ax25.specs.declared.Address.{Address}
+use Rattle.ax25.specs.declared.Role.{Role}
+use Rattle.ax25.specs.declared.Role.the-variants.{Destination, Source}
+use Rattle.ax25.specs.Address.{goodAddress, addressBytes, writeAddress}
+use Rattle.ax25.specs.Head.{headBytes, writeHead}
+
+module _ (role : Role) (out : List ℕ) (at : ℕ) (a : Address) where
+  pub address-2 : goodAddress a ≡ false → writeAddress role out at a ≡ refused 2
+  unfolding writeAddress
+  address-2 g = stop _ _ _ (ap not g)
+
+  pub address-12 : goodAddress a ≡ true → fits out at (addressBytes role a) ≡ false → writeAddress role out at a ≡ refused 12
+  unfolding writeAddress
+  address-12 g f = skip _ _ _ (ap not g) ∙ stop _ _ _ (ap not f)
+
+  pub address-written : goodAddress a ≡ true → fits out at (addressBytes role a) ≡ true → writeAddress role out at a ≡ accepted (putIn out at (addressBytes role a))
+  unfolding writeAddress
+  address-written g f = skip _ _ _ (ap not g) ∙ skip _ _ _ (ap not f) ∙ none-left _
+
+module _ (out : List ℕ) (d s : Address) (protocol : ℕ) where
+  pub head-2 : (goodAddress d && goodAddress s) ≡ false → writeHead out d s protocol ≡ refused 2
+  unfolding writeHead
+  head-2 g = stop _ _ _ (ap not g)
+
+  pub head-12 : (goodAddress d && goodAddress s) ≡ true → length out < 16 → writeHead out d s protocol ≡ refused 12
+  unfolding writeHead
+  head-12 g l = skip _ _ _ (ap not g) ∙ stop _ _ _ (lt-ltb _ _ l)
+
+  pub head-written : (goodAddress d && goodAddress s) ≡ true → 16 ≤ length out → writeHead out d s protocol ≡ accepted (putIn out 0 (headBytes d s protocol))
+  unfolding writeHead
+  head-written g l = skip _ _ _ (ap not g) ∙ skip _ _ _ (le-ltb _ _ l) ∙ none-left _
+
+  -- both addresses and the two bytes after them, one after the other, are the head's 16 bytes
+  pub three-runs : 16 ≤ length out → putIn (putIn (putIn out 0 (addressBytes Destination d)) 7 (addressBytes Source s)) 14 (0x03 ∷ protocol ∷ []) ≡ putIn out 0 (headBytes d s protocol)
+  unfolding headBytes
+  three-runs h =
+      ap (λ (l : List ℕ). putIn l 14 (0x03 ∷ protocol ∷ [])) (put-put out 0 (addressBytes Destination d) (addressBytes Source s) (omega arith))
+      ∙ put-put out 0 (addressBytes Destination d ++ addressBytes Source s) (0x03 ∷ protocol ∷ []) (omega arith)

@@ -1,0 +1,48 @@
+-- The head of a frame (01, "Frame"): destination, source, control 0x03 and the protocol; its reasons in their order.
+-- Assumes nothing.
+use mathlib.Core.Bool.{Bool, not, _&&_}
+use mathlib.Core.List.{List, [], _∷_, _++_}
+use Prim.Native.Nat.{ℕ, _-_}
+use lib.Dec.{ltb, eqb}
+use lib.ListN.{length}
+use Rattle.reason.specs.Answer.{Answer, accepted, refused}
+use Rattle.reason.specs.Order.{Check, check, firstOf}
+use Rattle.octets.specs.Numbers.{byteAt}
+use Rattle.octets.specs.Runs.{putIn}
+use Rattle.ax25.specs.declared.Address.{Address}
+use Rattle.ax25.specs.declared.Role.the-variants.{Destination, Source}
+use Rattle.ax25.specs.declared.Head.{Head}
+use Rattle.ax25.specs.declared.HeadRead.{HeadRead}
+use Rattle.ax25.specs.declared.HeadRead.the-variants.{Accepted, Refused}
+use Rattle.ax25.specs.Address.{goodAddress, addressBytes, addressAt, wellFormed}
+
+-- "Order in a frame": 1 (below 16), 2, 3, 4, 7 (over 255)
+unfoldable pub headChecks : ℕ → List ℕ → List Check
+headChecks protocol frame =
+    check (ltb (length frame) 16) 1
+    ∷ check (not (wellFormed Destination frame 0 && wellFormed Source frame 7)) 2
+    ∷ check (not (eqb (byteAt frame 14) 0x03)) 3
+    ∷ check (not (eqb (byteAt frame 15) protocol)) 4
+    ∷ check (ltb 255 (length frame - 16)) 7
+    ∷ []
+
+-- both addresses
+unfoldable pub headOf : List ℕ → Head
+headOf frame = record { destination = addressAt frame 0; source = addressAt frame 7 }
+
+abbrev pub readHead : ℕ → List ℕ → Answer Head
+readHead protocol frame = firstOf (headChecks protocol frame) (headOf frame)
+
+-- the 16 bytes of a head
+unfoldable pub headBytes : Address → Address → ℕ → List ℕ
+headBytes destination source protocol = addressBytes Destination destination ++ addressBytes Source source ++ 0x03 ∷ protocol ∷ []
+
+-- writing it into the first 16 bytes of a list: 2 (either address), 12
+unfoldable pub writeHead : List ℕ → Address → Address → ℕ → Answer (List ℕ)
+writeHead out destination source protocol =
+    firstOf (check (not (goodAddress destination && goodAddress source)) 2 ∷ check (ltb (length out) 16) 12 ∷ []) (putIn out 0 (headBytes destination source protocol))
+
+-- the paper's number and values for each case of the answer
+abbrev pub headAnswer : HeadRead → Answer Head
+headAnswer (Accepted h) = accepted h
+headAnswer (Refused n) = refused n

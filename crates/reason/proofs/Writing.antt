@@ -1,0 +1,23 @@
+-- Laws of `Wrote`: how a writer's promise is met, and what a caller learns of it.
+-- Assumes nothing.
+use mathlib.Core.Path.{_≡_, refl, sym, ap, _∙_}
+use mathlib.Core.List.{List}
+use Prim.Native.Nat.{ℕ}
+use Rattle.reason.specs.declared.Outcome.{Outcome}
+use Rattle.reason.specs.declared.Outcome.the-variants.{Accepted, Refused}
+use Rattle.reason.specs.Answer.{Answer, accepted, refused, telling, leaving, outcome, Wrote}
+use Rattle.reason.proofs.OnlyOne.{only-one-written}
+
+module _ (lent : List ℕ) (made : Answer (List ℕ)) (left : List ℕ) where
+  pub wrote-refused : (n : ℕ) → made ≡ refused n → left ≡ lent → Wrote lent made (Refused n) left
+  wrote-refused n e l = record { answer = sym (ap (telling (λ (x : List ℕ). tt)) e); bytes = l ∙ sym (ap (leaving (λ (x : List ℕ). x) lent) e) }
+
+  pub wrote-accepted : (new : List ℕ) → made ≡ accepted new → left ≡ new → Wrote lent made Accepted left
+  wrote-accepted new e l = record { answer = sym (ap (telling (λ (x : List ℕ). tt)) e); bytes = l ∙ sym (ap (leaving (λ (x : List ℕ). x) lent) e) }
+
+-- what is written and told where the operation is known to accept, and where it is known to refuse
+pub when-accepted : (lent : List ℕ) (made : Answer (List ℕ)) (r : Outcome) (left new : List ℕ) → Wrote lent made r left → made ≡ accepted new → (r ≡ Accepted) × (left ≡ new)
+when-accepted lent made r left new w e = only-one-written lent made r Accepted left new w (wrote-accepted lent made new new e refl)
+
+pub when-refused : (lent : List ℕ) (made : Answer (List ℕ)) (r : Outcome) (left : List ℕ) (n : ℕ) → Wrote lent made r left → made ≡ refused n → (r ≡ Refused n) × (left ≡ lent)
+when-refused lent made r left n w e = only-one-written lent made r (Refused n) left lent w (wrote-refused lent made lent n e refl)
