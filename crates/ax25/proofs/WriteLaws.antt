@@ -8,10 +8,11 @@ use Prim.Native.Nat.{ℕ, _+_, _≤_, _<_}
 use native.Mathlib.Omega.{arith}
 use lib.Dec.{ltb}
 use lib.ListN.{length}
-use borrow.Author.Tests.{lt-ltb, le-ltb, le-leb}
+use borrow.Author.Tests.{lt-ltb, le-ltb, ltb-false, leb-true, not-false}
 use Rattle.reason.specs.Answer.{Answer, accepted, refused}
 use Rattle.reason.specs.Order.{check, firstOf}
-use Rattle.reason.proofs.OrderLaws.{skip, stop, none-left}
+use Rattle.reason.proofs.Bools.{and-left, and-right}
+use Rattle.reason.proofs.OrderLaws.{skip, stop, none-left, accepted-only-if}
 use Rattle.octets.specs.Runs.{fits, putIn}
 use Rattle.octets.proofs.RunLaws.{put-put, put-length}
 use Rattle.ax25.specs.declared.Address.{Address}
@@ -33,6 +34,13 @@ module _ (role : Role) (out : List ℕ) (at : ℕ) (a : Address) where
   unfolding writeAddress
   address-written g f = skip _ _ _ (ap not g) ∙ skip _ _ _ (ap not f) ∙ none-left _
 
+  -- .. and what an accepted write says
+  pub written-address : (left : List ℕ) → writeAddress role out at a ≡ accepted left → (goodAddress a ≡ true) × (at + 7 ≤ length out) × (left ≡ putIn out at (addressBytes role a))
+  unfolding writeAddress
+  written-address left e =
+      let all = accepted-only-if (check (not (goodAddress a)) 2 ∷ check (not (fits out at (addressBytes role a))) 12 ∷ []) (putIn out at (addressBytes role a)) left e in
+      (not-false _ (all .0 .0), leb-true (at + 7) (length out) (not-false _ (all .0 .1 .0)), all .1)
+
 module _ (out : List ℕ) (d s : Address) (protocol : ℕ) where
   pub head-2 : (goodAddress d && goodAddress s) ≡ false → writeHead out d s protocol ≡ refused 2
   unfolding writeHead
@@ -45,6 +53,13 @@ module _ (out : List ℕ) (d s : Address) (protocol : ℕ) where
   pub head-written : (goodAddress d && goodAddress s) ≡ true → 16 ≤ length out → writeHead out d s protocol ≡ accepted (putIn out 0 (headBytes d s protocol))
   unfolding writeHead
   head-written g l = skip _ _ _ (ap not g) ∙ skip _ _ _ (le-ltb _ _ l) ∙ none-left _
+
+  pub written-head : (left : List ℕ) → writeHead out d s protocol ≡ accepted left → (goodAddress d ≡ true) × (goodAddress s ≡ true) × (16 ≤ length out) × (left ≡ putIn out 0 (headBytes d s protocol))
+  unfolding writeHead
+  written-head left e =
+      let all = accepted-only-if (check (not (goodAddress d && goodAddress s)) 2 ∷ check (ltb (length out) 16) 12 ∷ []) (putIn out 0 (headBytes d s protocol)) left e in
+      let both : (goodAddress d && goodAddress s) ≡ true = not-false _ (all .0 .0) in
+      (and-left (goodAddress d) (goodAddress s) both, and-right (goodAddress d) (goodAddress s) both, ltb-false (length out) 16 (all .0 .1 .0), all .1)
 
   -- both addresses and the two bytes after them, one after the other, are the head's 16 bytes
   pub three-runs : 16 ≤ length out → putIn (putIn (putIn out 0 (addressBytes Destination d)) 7 (addressBytes Source s)) 14 (0x03 ∷ protocol ∷ []) ≡ putIn out 0 (headBytes d s protocol)

@@ -1,73 +1,123 @@
+-- `ax25::read_head` meets its contract: each return is one of the laws of a head, in the order of its reasons.
+-- Assumes nothing.
+use mathlib.Core.Path.{_≡_, refl, sym, ap, ap₂, _∙_}
+use mathlib.Core.Bool.{Bool, true, false, _&&_, and-false}
+use mathlib.Core.List.{List}
+use Prim.Native.Nat.{ℕ, _≤_}
+use lib.ListN.{length}
+use denote.Ref.{now}
 use borrow.Author.Needs.{needs}
+use Rattle.reason.specs.Answer.{accepted}
+use Rattle.reason.proofs.Bools.{and-both}
+use Rattle.ax25.specs.declared.Address.{Address}
+use Rattle.ax25.specs.declared.Role.the-variants.{Destination, Source}
+use Rattle.ax25.specs.declared.Head.{Head}
+use Rattle.ax25.specs.Address.{addressAt, wellFormed, addressAnswer}
+use Rattle.ax25.specs.Head.{headOf}
+use Rattle.ax25.proofs.AddressLaws.{accepted-address, refused-address}
+use Rattle.ax25.proofs.HeadLaws.{reads-1, reads-2, reads-3, reads-4, reads-7, reads-head}
 use Rattle.ax25.proofs.read_head.Statement.{statement}
 use Rattle.ax25.proofs.read_head.Tie as tie
-use Rattle.ax25.proofs.read_head.Reads as reads
-use Rattle.ax25.proofs.read_head.Lts as lts
-use Rattle.ax25.proofs.read_address.Reads as read-address-reads
 
--- src/lib.rt:92:9
+-- the frame and the protocol at entry
+abbrev F : tie.Start → List ℕ
+F c = now (c .args .frame)
+
+abbrev P : tie.Start → ℕ
+P c = c .args .protocol
+
+-- what each address that was read says
+dest : (c : tie.After-destination) → (wellFormed Destination (F (c .before .before .before .before .before)) 0 ≡ true) × (c .destination .given .0 .0 ≡ addressAt (F (c .before .before .before .before .before)) 0)
+dest c = accepted-address Destination (F (c .before .before .before .before .before)) 0 _ (sym (c .before .before .read-address .ensures) ∙ ap addressAnswer (c .destination .given .1))
+
+sour : (c : tie.After-source) → (wellFormed Source (F (c .before .before .before .before .before .before .before .before .before)) 7 ≡ true) × (c .source .given .0 .0 ≡ addressAt (F (c .before .before .before .before .before .before .before .before .before)) 7)
+sour c = accepted-address Source (F (c .before .before .before .before .before .before .before .before .before)) 7 _ (sym (c .before .before .read-address2 .ensures) ∙ ap addressAnswer (c .source .given .1))
+
+both : (c : tie.After-source) → (wellFormed Destination (F (c .before .before .before .before .before .before .before .before .before)) 0 && wellFormed Source (F (c .before .before .before .before .before .before .before .before .before)) 7) ≡ true
+both c = and-both _ _ (dest (c .before .before .before .before) .0) (sour c .0)
+
+first-bad : (x y : Bool) → x ≡ false → (x && y) ≡ false
+first-bad x y e = rw e
+
+second-bad : (x y : Bool) → y ≡ false → (x && y) ≡ false
+second-bad x y e = rw (e, and-false)
+
+head : (f : List ℕ) (d s : Address) → d ≡ addressAt f 0 → s ≡ addressAt f 7 → _≡_ {A = Head} (record { destination = d; source = s }) (headOf f)
+unfolding headOf
+head f d s x y = rw (x, y)
+
 returns : tie.Need-returns
-returns c = ?
+returns c = let e = c .before .before in sym (reads-1 (P e) (F e) (c .if1 .taken))
 
--- src/lib.rt:94:46
 read-address-requires : tie.Need-read-address-requires
 read-address-requires c κs = search needs
 
--- src/lib.rt:94:31
 enum-known-destination : tie.Need-enum-known-destination
 enum-known-destination c = search needs
 
--- src/lib.rt:95:9
 enum-told : tie.Need-enum-told
 enum-told c = search needs
 
--- src/lib.rt:95:9
 returns-2 : tie.Need-returns-2
-returns-2 c = ?
+returns-2 c =
+    let r = c .before .before in
+    let e = r .before .before .before in
+    let w = refused-address Destination (F e) 0 _ (sym (r .read-address .ensures) ∙ ap addressAnswer (c .enum-told .given .1)) in
+    sym (reads-2 (P e) (F e) (r .before .if1 .left) (first-bad _ _ w))
 
--- src/lib.rt:97:41
 read-address-requires-2 : tie.Need-read-address-requires-2
 read-address-requires-2 c κs = search needs
 
--- src/lib.rt:97:31
 enum-known-source : tie.Need-enum-known-source
 enum-known-source c = search needs
 
--- src/lib.rt:98:9
 enum-told-2 : tie.Need-enum-told-2
 enum-told-2 c = search needs
 
--- src/lib.rt:98:9
 returns-3 : tie.Need-returns-3
-returns-3 c = ?
+returns-3 c =
+    let r = c .before .before in
+    let e = r .before .before .before .before .before .before .before in
+    let w = refused-address Source (F e) 7 _ (sym (r .read-address2 .ensures) ∙ ap addressAnswer (c .enum-told2 .given .1)) in
+    sym (reads-2 (P e) (F e) (r .before .before .before .before .before .if1 .left) (second-bad (wellFormed Destination (F e) 0) _ w))
 
--- src/lib.rt:100:8
 shared-slice-read-if2 : tie.Need-shared-slice-read-if2
 shared-slice-read-if2 c = search needs
 
--- src/lib.rt:101:9
-returns-4 : tie.Need-returns-4
-returns-4 c = ?
+-- past both addresses: the frame has 16 bytes
+long : (c : tie.After-source) → 16 ≤ length (F (c .before .before .before .before .before .before .before .before .before))
+long c = c .before .before .before .before .before .before .before .if1 .left
 
--- src/lib.rt:103:8
+returns-4 : tie.Need-returns-4
+returns-4 c =
+    let s = c .before .before .before in
+    let e = s .before .before .before .before .before .before .before .before .before in
+    sym (reads-3 (P e) (F e) (long s) (both s) (c .if2 .taken))
+
 shared-slice-read-if3 : tie.Need-shared-slice-read-if3
 shared-slice-read-if3 c = search needs
 
--- src/lib.rt:104:9
 returns-5 : tie.Need-returns-5
-returns-5 c = ?
+returns-5 c =
+    let s = c .before .before .before .before .before in
+    let e = s .before .before .before .before .before .before .before .before .before in
+    sym (reads-4 (P e) (F e) (long s) (both s) (c .before .before .if2 .left) (c .if3 .taken))
 
--- src/lib.rt:106:14
 sub-if4 : tie.Need-sub-if4
 sub-if4 c = search needs
 
--- src/lib.rt:107:9
 returns-6 : tie.Need-returns-6
-returns-6 c = ?
+returns-6 c =
+    let s = c .before .before .before .before .before .before in
+    let e = s .before .before .before .before .before .before .before .before .before in
+    sym (reads-7 (P e) (F e) (long s) (both s) (c .before .before .before .if2 .left) (c .before .if3 .left) (c .if4 .taken))
 
--- src/lib.rt:88:1
 returns-7 : tie.Need-returns-7
-returns-7 c = ?
+returns-7 c =
+    let s = c .before .before .before .before .before .before in
+    let e = s .before .before .before .before .before .before .before .before .before in
+    ap accepted (head (F e) _ _ (dest (s .before .before .before .before) .1) (sour s .1))
+    ∙ sym (reads-head (P e) (F e) (long s) (both s) (c .before .before .before .if2 .left) (c .before .if3 .left) (c .if4 .left))
 
 pub read-head-spec : {M : Type 1} → statement M
 read-head-spec =

@@ -5,51 +5,37 @@ use Rattle.ax25.proofs.AddressLaws.{character-of-good, number-of-good, 
 use borrow.Author.Needs.{needs}
 use Rattle.ax25.proofs.spelling.bytes_of.Statement.{statement}
 use Rattle.ax25.proofs.spelling.bytes_of.Tie as tie
-use Rattle.ax25.proofs.spelling.bytes_of.Reads as reads
-use Rattle.ax25.proofs.spelling.bytes_of.Lts as lts
-use Rattle.ax25.proofs.spelling.last_bit.Reads as last-bit-reads
 
--- src/spelling.rt:90:9
 last-bit-requires : tie.Need-last-bit-requires
 last-bit-requires c κs = search needs
 
--- src/spelling.rt:92:9
 mul-t4 : tie.Need-mul-t4
 mul-t4 c = omega (arith, character-of-good (c .before .before .args .a) (c .before .before .pre) 0)
 
--- src/spelling.rt:93:9
 mul-t5 : tie.Need-mul-t5
 mul-t5 c = omega (arith, character-of-good (c .before .before .before .args .a) (c .before .before .before .pre) 1)
 
--- src/spelling.rt:94:9
 mul-t6 : tie.Need-mul-t6
 mul-t6 c = omega (arith, character-of-good (c .before .before .before .before .args .a) (c .before .before .before .before .pre) 2)
 
--- src/spelling.rt:95:9
 mul-t7 : tie.Need-mul-t7
 mul-t7 c = omega (arith, character-of-good (c .before .before .before .before .before .args .a) (c .before .before .before .before .before .pre) 3)
 
--- src/spelling.rt:96:9
 mul-t8 : tie.Need-mul-t8
 mul-t8 c = omega (arith, character-of-good (c .before .before .before .before .before .before .args .a) (c .before .before .before .before .before .before .pre) 4)
 
--- src/spelling.rt:97:9
 mul-t9 : tie.Need-mul-t9
 mul-t9 c = omega (arith, character-of-good (c .before .before .before .before .before .before .before .args .a) (c .before .before .before .before .before .before .before .pre) 5)
 
--- src/spelling.rt:98:16
 mul-t10 : tie.Need-mul-t10
 mul-t10 c = omega (arith, number-of-good (c .before .before .before .before .before .before .before .before .args .a) (c .before .before .before .before .before .before .before .before .pre))
 
--- src/spelling.rt:98:9
 add-t11 : tie.Need-add-t11
 add-t11 c = omega (arith, number-of-good (c .before .before .before .before .before .before .before .before .args .a) (c .before .before .before .before .before .before .before .before .pre))
 
--- src/spelling.rt:98:9
 add-t12 : tie.Need-add-t12
 add-t12 c = omega (arith, number-of-good (c .before .before .before .before .before .before .before .before .args .a) (c .before .before .before .before .before .before .before .before .pre), c .before .before .before .before .before .before .before .last-bit .ensures, last-bit-below (c .before .before .before .before .before .before .before .before .args .role))
 
--- src/spelling.rt:86:1
 returns : tie.Need-returns
 returns c = simp (c .before .before .before .before .before .before .before .last-bit .ensures)
 

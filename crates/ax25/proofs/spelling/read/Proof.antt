@@ -12,72 +12,52 @@ use Rattle.ax25.proofs.AddressLaws.{address-accepted, address-refused}
 use borrow.Author.Needs.{needs}
 use Rattle.ax25.proofs.spelling.read.Statement.{statement}
 use Rattle.ax25.proofs.spelling.read.Tie as tie
-use Rattle.ax25.proofs.spelling.read.Reads as reads
-use Rattle.ax25.proofs.spelling.read.Lts as lts
-use Rattle.ax25.proofs.spelling.is_name.Reads as is-name-reads
-use Rattle.ax25.proofs.spelling.last_bit.Reads as last-bit-reads
 
--- src/spelling.rt:54:14
 shared-slice-read-b0 : tie.Need-shared-slice-read-b0
 shared-slice-read-b0 c = search needs
 
--- src/spelling.rt:55:16
 add-b1 : tie.Need-add-b1
 add-b1 c = search needs
 
--- src/spelling.rt:55:14
 shared-slice-read-b1 : tie.Need-shared-slice-read-b1
 shared-slice-read-b1 c = search needs
 
--- src/spelling.rt:56:16
 add-b2 : tie.Need-add-b2
 add-b2 c = search needs
 
--- src/spelling.rt:56:14
 shared-slice-read-b2 : tie.Need-shared-slice-read-b2
 shared-slice-read-b2 c = search needs
 
--- src/spelling.rt:57:16
 add-b3 : tie.Need-add-b3
 add-b3 c = search needs
 
--- src/spelling.rt:57:14
 shared-slice-read-b3 : tie.Need-shared-slice-read-b3
 shared-slice-read-b3 c = search needs
 
--- src/spelling.rt:58:16
 add-b4 : tie.Need-add-b4
 add-b4 c = search needs
 
--- src/spelling.rt:58:14
 shared-slice-read-b4 : tie.Need-shared-slice-read-b4
 shared-slice-read-b4 c = search needs
 
--- src/spelling.rt:59:16
 add-b5 : tie.Need-add-b5
 add-b5 c = search needs
 
--- src/spelling.rt:59:14
 shared-slice-read-b5 : tie.Need-shared-slice-read-b5
 shared-slice-read-b5 c = search needs
 
--- src/spelling.rt:60:18
 add-ssid : tie.Need-add-ssid
 add-ssid c = search needs
 
--- src/spelling.rt:60:16
 shared-slice-read-ssid : tie.Need-shared-slice-read-ssid
 shared-slice-read-ssid c = search needs
 
--- src/spelling.rt:61:9
 last-bit-requires : tie.Need-last-bit-requires
 last-bit-requires c κs = search needs
 
--- src/spelling.rt:78:23
 is-name-requires : tie.Need-is-name-requires
 is-name-requires c κs = search needs
 
--- src/spelling.rt:50:1
 whole : (role : Role) (s : List ℕ) (at last : ℕ) (named b : Bool) → last ≡ lastBit role → named ≡ isName (addressAt s at)
     → (lowBitsClear s at && (eqb (byteAt s (at + 6) / 128) 0 && eqb (byteAt s (at + 6) / 32 % 4) 3 && eqb (byteAt s (at + 6) % 2) last) && named) ≡ b → wellFormed role s at ≡ b
 unfolding wellFormed
@@ -89,7 +69,6 @@ returns c =
     let a = c .before .before .before .before .before .before .before .before .before .before .before .args in
     sym (address-accepted (a .role) (a .s .now) (a .at) (whole (a .role) (a .s .now) (a .at) (c .before .before .last-bit .result) (c .before .is-name .result) true (c .before .before .last-bit .ensures) (c .before .is-name .ensures) (c .if1 .taken)))
 
--- src/spelling.rt:50:1
 returns-2 : tie.Need-returns-2
 unfolding addressAt
 returns-2 c =

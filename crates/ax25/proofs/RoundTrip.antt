@@ -1,0 +1,133 @@
+-- Round trips (demand 2): what is written is read back, and what is accepted is what writing it gives.
+-- Assumes nothing.
+use mathlib.Core.Path.{_≡_, refl, sym, ap, ap₂, _∙_}
+use mathlib.Core.Bool.{Bool, true}
+use mathlib.Core.List.{List, [], _∷_, _++_}
+use Prim.Native.Nat.{ℕ, zero, suc, _+_, _-_, _≤_, _<_}
+use native.Mathlib.Nat.{zero-add}
+use native.Mathlib.Omega.{arith}
+use lib.ListN.{length, take, drop, List·getD-append}
+use lib.Seq.{getD-append-add}
+use borrow.Author.Tests.{le-leb}
+use Rattle.reason.specs.Answer.{accepted}
+use Rattle.reason.proofs.Bools.{and-both}
+use Rattle.octets.specs.Numbers.{byteAt}
+use Rattle.octets.specs.Runs.{fits, putIn}
+use Rattle.octets.proofs.RunLaws.{put-within, put-length, put-part, put-same, part-is}
+use Rattle.ax25.specs.declared.Address.{Address}
+use Rattle.ax25.specs.declared.Role.{Role}
+use Rattle.ax25.specs.declared.Role.the-variants.{Destination, Source}
+use Rattle.ax25.specs.declared.Head.{Head}
+use Rattle.ax25.specs.Address.{goodAddress, addressBytes, addressAt, wellFormed, readAddress, writeAddress}
+use Rattle.ax25.specs.Head.{headOf, headBytes, readHead, writeHead}
+use Rattle.ax25.proofs.AddressLaws.{spelled, formed, good, in-list, bytes-of-address, address-accepted, accepted-address}
+use Rattle.ax25.proofs.HeadLaws.{reads-head, HeadSays, head-says}
+use Rattle.ax25.proofs.WriteLaws.{address-written, written-address, head-written, written-head, three-runs}
+
+-- addresses
+
+-- the seven bytes of an address that can be written, wherever they stand, are read as that address
+read-of-bytes : (role : Role) (a : Address) → goodAddress a ≡ true → (s : List ℕ) (at : ℕ) → ((k : ℕ) → k < 7 → byteAt s (at + k) ≡ byteAt (addressBytes role a) k) → readAddress role s at ≡ accepted a
+read-of-bytes role a g s at bytes = address-accepted role s at (formed role a g s at bytes) ∙ ap accepted (spelled role a g s at bytes)
+
+-- what is written is read back
+pub written-address-is-read : (role : Role) (out : List ℕ) (at : ℕ) (a : Address) (left : List ℕ) → writeAddress role out at a ≡ accepted left → readAddress role left at ≡ accepted a
+written-address-is-read role out at a left e =
+    let w = written-address role out at a left e in
+    ap (λ (l : List ℕ). readAddress role l at) (w .2) ∙ read-of-bytes role a (w .0) (putIn out at (addressBytes role a)) at (put-within out at (addressBytes role a) (w .1))
+
+-- the bytes of an accepted address are what writing it gives, so writing it there again changes nothing
+pub read-address-is-written : (role : Role) (s : List ℕ) (at : ℕ) (a : Address) → readAddress role s at ≡ accepted a → (take 7 (drop at s) ≡ addressBytes role a) × (writeAddress role s at a ≡ accepted s)
+read-address-is-written role s at a e =
+    let k = accepted-address role s at a e in
+    let w : wellFormed role s at ≡ true = k .0 in
+    let is : addressAt s at ≡ a = sym (k .1) in
+    let bytes : take 7 (drop at s) ≡ addressBytes role a = bytes-of-address role s at w ∙ ap (addressBytes role) is in
+    let g : goodAddress a ≡ true = ap goodAddress (sym is) ∙ good role s at w in
+    let room : fits s at (addressBytes role a) ≡ true = le-leb (at + 7) (length s) (in-list role s at w) in
+    (bytes, address-written role s at a g room ∙ ap accepted (put-same s at (addressBytes role a) bytes))
+
+-- two addresses that can be written and have the same bytes are one
+pub address-has-one-meaning : (role : Role) (a b : Address) → goodAddress a ≡ true → goodAddress b ≡ true → addressBytes role a ≡ addressBytes role b → a ≡ b
+address-has-one-meaning role a b ga gb e =
+    sym (spelled role a ga (addressBytes role a) 0 (λ k l. ap (byteAt (addressBytes role a)) (zero-add k)))
+    ∙ spelled role b gb (addressBytes role a) 0 (λ k l. ap₂ byteAt e (zero-add k))
+
+-- heads
+
+-- each byte of a written head
+module _ (out : List ℕ) (d s : Address) (protocol : ℕ) (room : 16 ≤ length out) where
+  abbrev left : List ℕ
+  left = putIn out 0 (headBytes d s protocol)
+
+  head-byte : (k : ℕ) → k < 16 → byteAt left k ≡ byteAt (headBytes d s protocol) k
+  unfolding headBytes
+  head-byte k l = ap (byteAt left) (omega arith) ∙ put-within out 0 (headBytes d s protocol) room k l
+
+  destination-byte : (k : ℕ) → k < 7 → byteAt left (0 + k) ≡ byteAt (addressBytes Destination d) k
+  unfolding headBytes
+  destination-byte k l =
+      ap (byteAt left) (omega arith)
+      ∙ head-byte k (omega arith)
+      ∙ List·getD-append (addressBytes Destination d ++ addressBytes Source s) (0x03 ∷ protocol ∷ []) 0 k (omega arith)
+      ∙ List·getD-append (addressBytes Destination d) (addressBytes Source s) 0 k l
+
+  source-byte : (k : ℕ) → k < 7 → byteAt left (7 + k) ≡ byteAt (addressBytes Source s) k
+  unfolding headBytes
+  source-byte k l =
+      head-byte (7 + k) (omega arith)
+      ∙ List·getD-append (addressBytes Destination d ++ addressBytes Source s) (0x03 ∷ protocol ∷ []) 0 (7 + k) (omega arith)
+      ∙ getD-append-add (addressBytes Destination d) (addressBytes Source s) k 0
+
+  control-byte : byteAt left 14 ≡ 0x03
+  unfolding headBytes
+  control-byte = head-byte 14 (omega arith)
+
+  protocol-byte : byteAt left 15 ≡ protocol
+  unfolding headBytes
+  protocol-byte = head-byte 15 (omega arith)
+
+  left-length : length left ≡ length out
+  unfolding headBytes
+  left-length = put-length out 0 (headBytes d s protocol) room
+
+  left-is-read : goodAddress d ≡ true → goodAddress s ≡ true → length out ≤ 271 → readHead protocol left ≡ accepted (record { destination = d; source = s })
+  unfolding headOf
+  left-is-read gd gs short =
+      let both = and-both _ _ (formed Destination d gd left 0 destination-byte) (formed Source s gs left 7 source-byte) in
+      reads-head protocol left (omega (arith, left-length)) both control-byte protocol-byte (omega (arith, left-length))
+      ∙ ap₂ (λ (x y : Address). accepted (record { destination = x; source = y })) (spelled Destination d gd left 0 destination-byte) (spelled Source s gs left 7 source-byte)
+
+-- the two bytes after the addresses
+at-each : (frame : List ℕ) (protocol : ℕ) → byteAt frame 14 ≡ 0x03 → byteAt frame 15 ≡ protocol → (k : ℕ) → k < 2 → byteAt frame (14 + k) ≡ byteAt (0x03 ∷ protocol ∷ []) k
+at-each frame protocol c p zero l = c
+at-each frame protocol c p (suc zero) l = p
+at-each frame protocol c p (suc (suc k)) l = absurd (omega arith)
+
+two-bytes : (frame : List ℕ) (protocol : ℕ) → 16 ≤ length frame → byteAt frame 14 ≡ 0x03 → byteAt frame 15 ≡ protocol → take 2 (drop 14 frame) ≡ 0x03 ∷ protocol ∷ []
+two-bytes frame protocol l c p = part-is frame 14 (0x03 ∷ protocol ∷ []) l (at-each frame protocol c p)
+
+-- what is written is read back, where no more than 255 bytes of information follow
+pub written-head-is-read : (out : List ℕ) (d s : Address) (protocol : ℕ) (left : List ℕ) → writeHead out d s protocol ≡ accepted left → length out ≤ 271 → readHead protocol left ≡ accepted (record { destination = d; source = s })
+written-head-is-read out d s protocol left e short =
+    let w = written-head out d s protocol left e in
+    ap (readHead protocol) (w .3) ∙ left-is-read out d s protocol (w .2) (w .0) (w .1) short
+
+-- the first 16 bytes of an accepted frame are what writing its head gives, so writing it there again changes nothing
+pub read-head-is-written : (protocol : ℕ) (frame : List ℕ) (head : Head) → readHead protocol frame ≡ accepted head
+    → (take 16 frame ≡ headBytes (head .destination) (head .source) protocol) × (writeHead frame (head .destination) (head .source) protocol ≡ accepted frame)
+unfolding headOf headBytes
+read-head-is-written protocol frame head e =
+    let h = head-says protocol frame head e in
+    let l = h .long in
+    let d = head .destination in
+    let s = head .source in
+    let d-read : readAddress Destination frame 0 ≡ accepted d = address-accepted Destination frame 0 (h .destination) ∙ ap (λ (x : Head). accepted (x .destination)) (sym (h .is)) in
+    let s-read : readAddress Source frame 7 ≡ accepted s = address-accepted Source frame 7 (h .source) ∙ ap (λ (x : Head). accepted (x .source)) (sym (h .is)) in
+    let d-same : putIn frame 0 (addressBytes Destination d) ≡ frame = put-same frame 0 (addressBytes Destination d) (read-address-is-written Destination frame 0 d d-read .0) in
+    let s-same : putIn frame 7 (addressBytes Source s) ≡ frame = put-same frame 7 (addressBytes Source s) (read-address-is-written Source frame 7 s s-read .0) in
+    let two-same : putIn frame 14 (0x03 ∷ protocol ∷ []) ≡ frame = put-same frame 14 (0x03 ∷ protocol ∷ []) (two-bytes frame protocol l (h .control) (h .named)) in
+    let same : putIn frame 0 (headBytes d s protocol) ≡ frame = sym (three-runs frame d s protocol l) ∙ ap (λ (x : List ℕ). putIn (putIn x 7 (addressBytes Source s)) 14 (0x03 ∷ protocol ∷ [])) d-same ∙ ap (λ (x : List ℕ). putIn x 14 (0x03 ∷ protocol ∷ [])) s-same ∙ two-same in
+    let d-good : goodAddress d ≡ true = ap (λ (x : Head). goodAddress (x .destination)) (h .is) ∙ good Destination frame 0 (h .destination) in
+    let s-good : goodAddress s ≡ true = ap (λ (x : Head). goodAddress (x .source)) (h .is) ∙ good Source frame 7 (h .source) in
+    (ap (take 16) (sym same) ∙ put-part frame 0 (headBytes d s protocol) l, head-written frame d s protocol (and-both (goodAddress d) (goodAddress s) d-good s-good) l ∙ ap accepted same)
