@@ -1,0 +1,55 @@
+-- `addresses::values` is safe and ends: a turn for each byte value.
+-- Assumes nothing.
+use Prim.Native.Nat.{_≤_, _-_}
+use borrow.Author.Needs.{needs}
+use Rattle.addresses.proofs.values.Statement.{statement}
+use Rattle.addresses.proofs.values.Tie as tie
+
+abbrev Inv-loop : tie.InvT-loop
+Inv-loop bytes at role v₀ t5 v = v ≤ 256
+
+abbrev μ-loop : tie.MeasureT-loop
+μ-loop bytes at role v₀ t5 v = 256 - v
+
+loop-holds : tie.Need-loop-holds Inv-loop μ-loop
+loop-holds c = search needs
+
+cast-value : tie.Need-cast-value Inv-loop μ-loop
+cast-value c = search needs
+
+value-requires : tie.Need-value-requires Inv-loop μ-loop
+value-requires c κs = search needs
+
+add-v : tie.Need-add-v Inv-loop μ-loop
+add-v c = search needs
+
+loop-less : tie.Need-loop-less Inv-loop μ-loop
+loop-less c = search needs
+
+loop-again : tie.Need-loop-again Inv-loop μ-loop
+loop-again c = search needs
+
+slice-aggregate-write-all : tie.Need-slice-aggregate-write-all Inv-loop μ-loop
+slice-aggregate-write-all c = search needs
+
+write-all-requires : tie.Need-write-all-requires Inv-loop μ-loop
+write-all-requires c κs = search needs
+
+returns : tie.Need-returns Inv-loop μ-loop
+returns c = search needs
+
+pub values-spec : {M : Type 1} → statement M
+values-spec =
+    tie.close
+    (tie.spec
+    Inv-loop
+    μ-loop
+    loop-holds
+    cast-value
+    value-requires
+    add-v
+    loop-less
+    loop-again
+    slice-aggregate-write-all
+    write-all-requires
+    returns)
