@@ -12,7 +12,6 @@ use lib.Dec.{leb, ltb, eqb}
 use lib.ListN.{length, getD, take, drop, List·getD-eq-default}
 use borrow.Author.Tests.{leb-true, ltb-true, lt-ltb, eqb-true, eq-eqb, not-true, not-false}
 use Rattle.reason.specs.Answer.{Answer, accepted, refused}
-use Rattle.reason.specs.Order.{check, firstOf}
 use Rattle.reason.proofs.Bools.{and-left, and-right, and-both, or-cases, le-or-lt}
 use Rattle.reason.proofs.OrderLaws.{refused-if, refused-only-if, accepted-if, accepted-only-if}
 use Rattle.octets.specs.Numbers.{byteAt}
@@ -20,7 +19,7 @@ use Rattle.octets.proofs.RunLaws.{part-is}
 use Rattle.ax25.specs.declared.Address.{Address}
 use Rattle.ax25.specs.declared.Role.{Role}
 use Rattle.ax25.specs.declared.Role.the-variants.{Destination, Source}
-use Rattle.ax25.specs.Address.{isCharacter, allSpaces, padded, charactersOf, isName, goodAddress, lastBit, addressBytes, addressAt, lowBitsClear, ssidRight, wellFormed, readAddress}
+use Rattle.ax25.specs.Address.{isCharacter, allSpaces, padded, charactersOf, isName, goodAddress, lastBit, addressBytes, addressAt, lowBitsClear, ssidRight, wellFormed, readChecks, readAddress}
 
 -- every character of a name is below 128
 
@@ -167,19 +166,19 @@ module _ (role : Role) (s : List ℕ) (at : ℕ) (formed : wellFormed role s at 
 module _ (role : Role) (s : List ℕ) (at : ℕ) where
   pub address-accepted : wellFormed role s at ≡ true → readAddress role s at ≡ accepted (addressAt s at)
   unfolding readAddress
-  address-accepted w = accepted-if (check (not (wellFormed role s at)) 2 ∷ []) (addressAt s at) (ap not w, tt)
+  address-accepted w = accepted-if (readChecks role s at) (addressAt s at) (ap not w, tt)
 
   pub address-refused : wellFormed role s at ≡ false → readAddress role s at ≡ refused 2
   unfolding readAddress
-  address-refused w = refused-if 2 (check (not (wellFormed role s at)) 2 ∷ []) (addressAt s at) (inl (ap not w, refl))
+  address-refused w = refused-if 2 (readChecks role s at) (addressAt s at) (inl (ap not w, refl))
 
   pub accepted-address : (a : Address) → readAddress role s at ≡ accepted a → (wellFormed role s at ≡ true) × (a ≡ addressAt s at)
   unfolding readAddress
   accepted-address a e =
-      let k = accepted-only-if (check (not (wellFormed role s at)) 2 ∷ []) (addressAt s at) a e in
+      let k = accepted-only-if (readChecks role s at) (addressAt s at) a e in
       (not-false (wellFormed role s at) (k .0 .0), k .1)
 
   pub refused-address : (n : ℕ) → readAddress role s at ≡ refused n → wellFormed role s at ≡ false
   unfolding readAddress
   refused-address n e =
-      ⊎-elim (λ w. not-true (wellFormed role s at) (w .0)) (λ w. absurd (w .1)) (refused-only-if n (check (not (wellFormed role s at)) 2 ∷ []) (addressAt s at) e)
+      ⊎-elim (λ w. not-true (wellFormed role s at) (w .0)) (λ w. absurd (w .1)) (refused-only-if n (readChecks role s at) (addressAt s at) e)

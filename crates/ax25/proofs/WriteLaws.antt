@@ -10,7 +10,6 @@ use lib.Dec.{ltb}
 use lib.ListN.{length}
 use borrow.Author.Tests.{lt-ltb, le-ltb, ltb-false, leb-true, not-false}
 use Rattle.reason.specs.Answer.{Answer, accepted, refused}
-use Rattle.reason.specs.Order.{check, firstOf}
 use Rattle.reason.proofs.Bools.{and-left, and-right}
 use Rattle.reason.proofs.OrderLaws.{skip, stop, none-left, accepted-only-if}
 use Rattle.octets.specs.Runs.{fits, putIn}
@@ -18,8 +17,8 @@ use Rattle.octets.proofs.RunLaws.{put-put, put-length}
 use Rattle.ax25.specs.declared.Address.{Address}
 use Rattle.ax25.specs.declared.Role.{Role}
 use Rattle.ax25.specs.declared.Role.the-variants.{Destination, Source}
-use Rattle.ax25.specs.Address.{goodAddress, addressBytes, writeAddress}
-use Rattle.ax25.specs.Head.{headBytes, writeHead}
+use Rattle.ax25.specs.Address.{goodAddress, addressBytes, writeChecks, writeAddress}
+use Rattle.ax25.specs.Head.{headBytes, headWriteChecks, writeHead}
 
 module _ (role : Role) (out : List ℕ) (at : ℕ) (a : Address) where
   pub address-2 : goodAddress a ≡ false → writeAddress role out at a ≡ refused 2
@@ -38,7 +37,7 @@ module _ (role : Role) (out : List ℕ) (at : ℕ) (a : Address) where
   pub written-address : (left : List ℕ) → writeAddress role out at a ≡ accepted left → (goodAddress a ≡ true) × (at + 7 ≤ length out) × (left ≡ putIn out at (addressBytes role a))
   unfolding writeAddress
   written-address left e =
-      let all = accepted-only-if (check (not (goodAddress a)) 2 ∷ check (not (fits out at (addressBytes role a))) 12 ∷ []) (putIn out at (addressBytes role a)) left e in
+      let all = accepted-only-if (writeChecks role out at a) (putIn out at (addressBytes role a)) left e in
       (not-false _ (all .0 .0), leb-true (at + 7) (length out) (not-false _ (all .0 .1 .0)), all .1)
 
 module _ (out : List ℕ) (d s : Address) (protocol : ℕ) where
@@ -57,7 +56,7 @@ module _ (out : List ℕ) (d s : Address) (protocol : ℕ) where
   pub written-head : (left : List ℕ) → writeHead out d s protocol ≡ accepted left → (goodAddress d ≡ true) × (goodAddress s ≡ true) × (16 ≤ length out) × (left ≡ putIn out 0 (headBytes d s protocol))
   unfolding writeHead
   written-head left e =
-      let all = accepted-only-if (check (not (goodAddress d && goodAddress s)) 2 ∷ check (ltb (length out) 16) 12 ∷ []) (putIn out 0 (headBytes d s protocol)) left e in
+      let all = accepted-only-if (headWriteChecks out d s) (putIn out 0 (headBytes d s protocol)) left e in
       let both : (goodAddress d && goodAddress s) ≡ true = not-false _ (all .0 .0) in
       (and-left (goodAddress d) (goodAddress s) both, and-right (goodAddress d) (goodAddress s) both, ltb-false (length out) 16 (all .0 .1 .0), all .1)
 

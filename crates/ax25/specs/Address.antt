@@ -5,7 +5,7 @@ use mathlib.Core.List.{List, [], _∷_}
 use Prim.Native.Nat.{ℕ, _+_, _*_, _/_, _%_}
 use lib.Dec.{leb, ltb, eqb}
 use Rattle.reason.specs.Answer.{Answer, accepted, refused}
-use Rattle.reason.specs.Order.{check, firstOf}
+use Rattle.reason.specs.Order.{Check, check, firstOf}
 use Rattle.octets.specs.Numbers.{byteAt}
 use Rattle.octets.specs.Runs.{fits, putIn}
 use Rattle.ax25.specs.declared.Address.{Address}
@@ -78,14 +78,19 @@ ssidRight role b = eqb (b / 128) 0 && eqb (b / 32 % 4) 3 && eqb (b % 2) (lastBit
 unfoldable pub wellFormed : Role → List ℕ → ℕ → Bool
 wellFormed role s at = lowBitsClear s at && ssidRight role (byteAt s (at + 6)) && isName (addressAt s at)
 
--- reading: 2 where they are none
+-- reading: 2
+abbrev pub readChecks : Role → List ℕ → ℕ → List Check
+readChecks role s at = check (not (wellFormed role s at)) 2 ∷ []
+
 unfoldable pub readAddress : Role → List ℕ → ℕ → Answer Address
-readAddress role s at = firstOf (check (not (wellFormed role s at)) 2 ∷ []) (addressAt s at)
+readAddress role s at = firstOf (readChecks role s at) (addressAt s at)
 
 -- writing into a list from a place on: 2, 12
+abbrev pub writeChecks : Role → List ℕ → ℕ → Address → List Check
+writeChecks role out at a = check (not (goodAddress a)) 2 ∷ check (not (fits out at (addressBytes role a))) 12 ∷ []
+
 unfoldable pub writeAddress : Role → List ℕ → ℕ → Address → Answer (List ℕ)
-writeAddress role out at a =
-    firstOf (check (not (goodAddress a)) 2 ∷ check (not (fits out at (addressBytes role a))) 12 ∷ []) (putIn out at (addressBytes role a))
+writeAddress role out at a = firstOf (writeChecks role out at a) (putIn out at (addressBytes role a))
 
 -- the paper's number and values for each case of the answer
 abbrev pub addressAnswer : AddressRead → Answer Address

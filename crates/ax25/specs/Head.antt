@@ -38,9 +38,11 @@ unfoldable pub headBytes : Address → Address → ℕ → List ℕ
 headBytes destination source protocol = addressBytes Destination destination ++ addressBytes Source source ++ 0x03 ∷ protocol ∷ []
 
 -- writing it into the first 16 bytes of a list: 2 (either address), 12
+abbrev pub headWriteChecks : List ℕ → Address → Address → List Check
+headWriteChecks out destination source = check (not (goodAddress destination && goodAddress source)) 2 ∷ check (ltb (length out) 16) 12 ∷ []
+
 unfoldable pub writeHead : List ℕ → Address → Address → ℕ → Answer (List ℕ)
-writeHead out destination source protocol =
-    firstOf (check (not (goodAddress destination && goodAddress source)) 2 ∷ check (ltb (length out) 16) 12 ∷ []) (putIn out 0 (headBytes destination source protocol))
+writeHead out destination source protocol = firstOf (headWriteChecks out destination source) (putIn out 0 (headBytes destination source protocol))
 
 -- the paper's number and values for each case of the answer
 abbrev pub headAnswer : HeadRead → Answer Head
