@@ -112,7 +112,8 @@ ssids role n e =
     let both : (top && next) ≡ true = and-left (top && next) last e in
     omega (arith, eqb-true (n / 128) 0 (and-left top next both), eqb-true (n / 32 % 4) 3 (and-right top next both), eqb-true (n % 2) (lastBit role) (and-right (top && next) last e))
 
-six : (b0 b1 b2 b3 b4 b5 : Bool) → (b0 && b1 && b2 && b3 && b4 && b5) ≡ true → (b0 ≡ true) × (b1 ≡ true) × (b2 ≡ true) × (b3 ≡ true) × (b4 ≡ true) × (b5 ≡ true)
+six : (b0 b1 b2 b3 b4 b5 : Bool) → (b0 && b1 && b2 && b3 && b4 && b5) ≡ true
+    → (b0 ≡ true) × (b1 ≡ true) × (b2 ≡ true) × (b3 ≡ true) × (b4 ≡ true) × (b5 ≡ true)
 six b0 b1 b2 b3 b4 b5 e5 =
     let e4 = and-left (b0 && b1 && b2 && b3 && b4) b5 e5 in
     let e3 = and-left (b0 && b1 && b2 && b3) b4 e4 in

@@ -31,7 +31,8 @@ unfolding address-made
 address-back (address.Accepted a) = refl
 address-back (address.Refused n) = refl
 
-pub only-one-address : (role : Role) (s : List ℕ) (at : ℕ) (r q : AddressRead) → addressAnswer r ≡ readAddress role s at → addressAnswer q ≡ readAddress role s at → r ≡ q
+pub only-one-address : (role : Role) (s : List ℕ) (at : ℕ) (r q : AddressRead) → addressAnswer r ≡ readAddress role s at
+    → addressAnswer q ≡ readAddress role s at → r ≡ q
 only-one-address role s at r q = only-one-meant addressAnswer address-made address-back r q
 
 -- `write_address`
@@ -49,7 +50,8 @@ unfolding head-made
 head-back (head.Accepted h) = refl
 head-back (head.Refused n) = refl
 
-pub only-one-head : (protocol : ℕ) (frame : List ℕ) (r q : HeadRead) → headAnswer r ≡ readHead protocol frame → headAnswer q ≡ readHead protocol frame → r ≡ q
+pub only-one-head : (protocol : ℕ) (frame : List ℕ) (r q : HeadRead) → headAnswer r ≡ readHead protocol frame
+    → headAnswer q ≡ readHead protocol frame → r ≡ q
 only-one-head protocol frame r q = only-one-meant headAnswer head-made head-back r q
 
 -- `write_head`

@@ -27,17 +27,20 @@ use Rattle.ax25.proofs.WriteLaws.{address-written, written-address, hea
 -- addresses
 
 -- the seven bytes of an address that can be written, wherever they stand, are read as that address
-read-of-bytes : (role : Role) (a : Address) → goodAddress a ≡ true → (s : List ℕ) (at : ℕ) → ((k : ℕ) → k < 7 → byteAt s (at + k) ≡ byteAt (addressBytes role a) k) → readAddress role s at ≡ accepted a
+read-of-bytes : (role : Role) (a : Address) → goodAddress a ≡ true → (s : List ℕ) (at : ℕ)
+    → ((k : ℕ) → k < 7 → byteAt s (at + k) ≡ byteAt (addressBytes role a) k) → readAddress role s at ≡ accepted a
 read-of-bytes role a g s at bytes = address-accepted role s at (formed role a g s at bytes) ∙ ap accepted (spelled role a g s at bytes)
 
 -- what is written is read back
-pub written-address-is-read : (role : Role) (out : List ℕ) (at : ℕ) (a : Address) (left : List ℕ) → writeAddress role out at a ≡ accepted left → readAddress role left at ≡ accepted a
+pub written-address-is-read : (role : Role) (out : List ℕ) (at : ℕ) (a : Address) (left : List ℕ)
+    → writeAddress role out at a ≡ accepted left → readAddress role left at ≡ accepted a
 written-address-is-read role out at a left e =
     let w = written-address role out at a left e in
     ap (λ (l : List ℕ). readAddress role l at) (w .2) ∙ read-of-bytes role a (w .0) (putIn out at (addressBytes role a)) at (put-within out at (addressBytes role a) (w .1))
 
 -- the bytes of an accepted address are what writing it gives, so writing it there again changes nothing
-pub read-address-is-written : (role : Role) (s : List ℕ) (at : ℕ) (a : Address) → readAddress role s at ≡ accepted a → (take 7 (drop at s) ≡ addressBytes role a) × (writeAddress role s at a ≡ accepted s)
+pub read-address-is-written : (role : Role) (s : List ℕ) (at : ℕ) (a : Address) → readAddress role s at ≡ accepted a
+    → (take 7 (drop at s) ≡ addressBytes role a) × (writeAddress role s at a ≡ accepted s)
 read-address-is-written role s at a e =
     let k = accepted-address role s at a e in
     let w : wellFormed role s at ≡ true = k .0 in
@@ -48,7 +51,8 @@ read-address-is-written role s at a e =
     (bytes, address-written role s at a g room ∙ ap accepted (put-same s at (addressBytes role a) bytes))
 
 -- two addresses that can be written and have the same bytes are one
-pub address-has-one-meaning : (role : Role) (a b : Address) → goodAddress a ≡ true → goodAddress b ≡ true → addressBytes role a ≡ addressBytes role b → a ≡ b
+pub address-has-one-meaning : (role : Role) (a b : Address) → goodAddress a ≡ true → goodAddress b ≡ true
+    → addressBytes role a ≡ addressBytes role b → a ≡ b
 address-has-one-meaning role a b ga gb e =
     sym (spelled role a ga (addressBytes role a) 0 (λ k l. ap (byteAt (addressBytes role a)) (zero-add k)))
     ∙ spelled role b gb (addressBytes role a) 0 (λ k l. ap₂ byteAt e (zero-add k))
@@ -99,12 +103,14 @@ module _ (out : List ℕ) (d s : Address) (protocol : ℕ) (room : 16 ≤ length
       ∙ ap₂ (λ (x y : Address). accepted (record { destination = x; source = y })) (spelled Destination d gd left 0 destination-byte) (spelled Source s gs left 7 source-byte)
 
 -- the two bytes after the addresses
-at-each : (frame : List ℕ) (protocol : ℕ) → byteAt frame 14 ≡ 0x03 → byteAt frame 15 ≡ protocol → (k : ℕ) → k < 2 → byteAt frame (14 + k) ≡ byteAt (0x03 ∷ protocol ∷ []) k
+at-each : (frame : List ℕ) (protocol : ℕ) → byteAt frame 14 ≡ 0x03 → byteAt frame 15 ≡ protocol → (k : ℕ) → k < 2
+    → byteAt frame (14 + k) ≡ byteAt (0x03 ∷ protocol ∷ []) k
 at-each frame protocol c p zero l = c
 at-each frame protocol c p (suc zero) l = p
 at-each frame protocol c p (suc (suc k)) l = absurd (omega arith)
 
-two-bytes : (frame : List ℕ) (protocol : ℕ) → 16 ≤ length frame → byteAt frame 14 ≡ 0x03 → byteAt frame 15 ≡ protocol → take 2 (drop 14 frame) ≡ 0x03 ∷ protocol ∷ []
+two-bytes : (frame : List ℕ) (protocol : ℕ) → 16 ≤ length frame → byteAt frame 14 ≡ 0x03 → byteAt frame 15 ≡ protocol
+    → take 2 (drop 14 frame) ≡ 0x03 ∷ protocol ∷ []
 two-bytes frame protocol l c p = part-is frame 14 (0x03 ∷ protocol ∷ []) l (at-each frame protocol c p)
 
 -- what is written is read back, where no more than 255 bytes of information follow
@@ -127,7 +133,10 @@ read-head-is-written protocol frame head e =
     let d-same : putIn frame 0 (addressBytes Destination d) ≡ frame = put-same frame 0 (addressBytes Destination d) (read-address-is-written Destination frame 0 d d-read .0) in
     let s-same : putIn frame 7 (addressBytes Source s) ≡ frame = put-same frame 7 (addressBytes Source s) (read-address-is-written Source frame 7 s s-read .0) in
     let two-same : putIn frame 14 (0x03 ∷ protocol ∷ []) ≡ frame = put-same frame 14 (0x03 ∷ protocol ∷ []) (two-bytes frame protocol l (h .control) (h .named)) in
-    let same : putIn frame 0 (headBytes d s protocol) ≡ frame = sym (three-runs frame d s protocol l) ∙ ap (λ (x : List ℕ). putIn (putIn x 7 (addressBytes Source s)) 14 (0x03 ∷ protocol ∷ [])) d-same ∙ ap (λ (x : List ℕ). putIn x 14 (0x03 ∷ protocol ∷ [])) s-same ∙ two-same in
+    let same : putIn frame 0 (headBytes d s protocol) ≡ frame =
+    sym (three-runs frame d s protocol l)
+    ∙ ap (λ (x : List ℕ). putIn (putIn x 7 (addressBytes Source s)) 14 (0x03 ∷ protocol ∷ [])) d-same
+    ∙ ap (λ (x : List ℕ). putIn x 14 (0x03 ∷ protocol ∷ [])) s-same ∙ two-same in
     let d-good : goodAddress d ≡ true = ap (λ (x : Head). goodAddress (x .destination)) (h .is) ∙ good Destination frame 0 (h .destination) in
     let s-good : goodAddress s ≡ true = ap (λ (x : Head). goodAddress (x .source)) (h .is) ∙ good Source frame 7 (h .source) in
     (ap (take 16) (sym same) ∙ put-part frame 0 (headBytes d s protocol) l, head-written frame d s protocol (and-both (goodAddress d) (goodAddress s) d-good s-good) l ∙ ap accepted same)

@@ -29,12 +29,14 @@ module _ (role : Role) (out : List ℕ) (at : ℕ) (a : Address) where
   unfolding writeAddress
   address-12 g f = skip _ _ _ (ap not g) ∙ stop _ _ _ (ap not f)
 
-  pub address-written : goodAddress a ≡ true → fits out at (addressBytes role a) ≡ true → writeAddress role out at a ≡ accepted (putIn out at (addressBytes role a))
+  pub address-written : goodAddress a ≡ true → fits out at (addressBytes role a) ≡ true
+      → writeAddress role out at a ≡ accepted (putIn out at (addressBytes role a))
   unfolding writeAddress
   address-written g f = skip _ _ _ (ap not g) ∙ skip _ _ _ (ap not f) ∙ none-left _
 
   -- .. and what an accepted write says
-  pub written-address : (left : List ℕ) → writeAddress role out at a ≡ accepted left → (goodAddress a ≡ true) × (at + 7 ≤ length out) × (left ≡ putIn out at (addressBytes role a))
+  pub written-address : (left : List ℕ) → writeAddress role out at a ≡ accepted left
+      → (goodAddress a ≡ true) × (at + 7 ≤ length out) × (left ≡ putIn out at (addressBytes role a))
   unfolding writeAddress
   written-address left e =
       let all = accepted-only-if (writeChecks role out at a) (putIn out at (addressBytes role a)) left e in
@@ -49,11 +51,13 @@ module _ (out : List ℕ) (d s : Address) (protocol : ℕ) where
   unfolding writeHead
   head-12 g l = skip _ _ _ (ap not g) ∙ stop _ _ _ (lt-ltb _ _ l)
 
-  pub head-written : (goodAddress d && goodAddress s) ≡ true → 16 ≤ length out → writeHead out d s protocol ≡ accepted (putIn out 0 (headBytes d s protocol))
+  pub head-written : (goodAddress d && goodAddress s) ≡ true → 16 ≤ length out
+      → writeHead out d s protocol ≡ accepted (putIn out 0 (headBytes d s protocol))
   unfolding writeHead
   head-written g l = skip _ _ _ (ap not g) ∙ skip _ _ _ (le-ltb _ _ l) ∙ none-left _
 
-  pub written-head : (left : List ℕ) → writeHead out d s protocol ≡ accepted left → (goodAddress d ≡ true) × (goodAddress s ≡ true) × (16 ≤ length out) × (left ≡ putIn out 0 (headBytes d s protocol))
+  pub written-head : (left : List ℕ) → writeHead out d s protocol ≡ accepted left
+      → (goodAddress d ≡ true) × (goodAddress s ≡ true) × (16 ≤ length out) × (left ≡ putIn out 0 (headBytes d s protocol))
   unfolding writeHead
   written-head left e =
       let all = accepted-only-if (headWriteChecks out d s) (putIn out 0 (headBytes d s protocol)) left e in
@@ -61,7 +65,8 @@ module _ (out : List ℕ) (d s : Address) (protocol : ℕ) where
       (and-left (goodAddress d) (goodAddress s) both, and-right (goodAddress d) (goodAddress s) both, ltb-false (length out) 16 (all .0 .1 .0), all .1)
 
   -- both addresses and the two bytes after them, one after the other, are the head's 16 bytes
-  pub three-runs : 16 ≤ length out → putIn (putIn (putIn out 0 (addressBytes Destination d)) 7 (addressBytes Source s)) 14 (0x03 ∷ protocol ∷ []) ≡ putIn out 0 (headBytes d s protocol)
+  pub three-runs : 16 ≤ length out
+      → putIn (putIn (putIn out 0 (addressBytes Destination d)) 7 (addressBytes Source s)) 14 (0x03 ∷ protocol ∷ []) ≡ putIn out 0 (headBytes d s protocol)
   unfolding headBytes
   three-runs h =
       ap (λ (l : List ℕ). putIn l 14 (0x03 ∷ protocol ∷ [])) (put-put out 0 (addressBytes Destination d) (addressBytes Source s) (omega arith))

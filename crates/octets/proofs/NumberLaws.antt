@@ -22,7 +22,8 @@ number-beyond (suc n) s at h =
     omega arith
 
 -- a number is fixed by its bytes
-pub number-ext : (n : ℕ) (s t : List ℕ) (at to : ℕ) → ((k : ℕ) → k < n → byteAt s (at + k) ≡ byteAt t (to + k)) → numberAt n s at ≡ numberAt n t to
+pub number-ext : (n : ℕ) (s t : List ℕ) (at to : ℕ) → ((k : ℕ) → k < n → byteAt s (at + k) ≡ byteAt t (to + k))
+    → numberAt n s at ≡ numberAt n t to
 number-ext zero s t at to h = refl
 number-ext (suc n) s t at to h =
     let b : byteAt s at ≡ byteAt t to = ap (byteAt s) (sym (add-zero at)) ∙ h 0 (omega arith) ∙ ap (byteAt t) (add-zero to) in
@@ -42,7 +43,8 @@ number-front n s t at h = number-ext n (s ++ t) s at at (λ k l. List·getD-appe
 pub number-behind : (n : ℕ) (s t : List ℕ) (at : ℕ) → numberAt n (s ++ t) (length s + at) ≡ numberAt n t at
 number-behind n s t at = number-ext n (s ++ t) t (length s + at) at (λ k l. ap (byteAt (s ++ t)) (omega arith) ∙ getD-append-add s t (at + k) 0)
 
-pub number-put : (n : ℕ) (out : List ℕ) (at : ℕ) (run : List ℕ) (k : ℕ) → at + length run ≤ length out → k + n ≤ length run → numberAt n (putIn out at run) (at + k) ≡ numberAt n run k
+pub number-put : (n : ℕ) (out : List ℕ) (at : ℕ) (run : List ℕ) (k : ℕ) → at + length run ≤ length out → k + n ≤ length run
+    → numberAt n (putIn out at run) (at + k) ≡ numberAt n run k
 number-put n out at run k h f = number-ext n (putIn out at run) run (at + k) k (λ i l. ap (byteAt (putIn out at run)) (omega arith) ∙ put-within out at run h (k + i) (omega arith))
 
 -- the bytes of a number: how many, and that each is a byte

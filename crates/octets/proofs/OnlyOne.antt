@@ -20,5 +20,6 @@ pub only-one-bytes : (n v : ℕ) (r q : List ℕ) → r ≡ bytesOf n v → q �
 only-one-bytes n v r q d e = d ∙ sym e
 
 -- `put`: its answer and what it leaves
-pub only-one-put : (out : List ℕ) (at : ℕ) (run : List ℕ) (r q : Bool) (left also : List ℕ) → Put out at run r left → Put out at run q also → (r ≡ q) × (left ≡ also)
+pub only-one-put : (out : List ℕ) (at : ℕ) (run : List ℕ) (r q : Bool) (left also : List ℕ) → Put out at run r left → Put out at run q also
+    → (r ≡ q) × (left ≡ also)
 only-one-put out at run r q left also d e = (d .answer ∙ sym (e .answer), d .bytes ∙ sym (e .bytes))

@@ -82,14 +82,16 @@ module _ (out : List ℕ) (at : ℕ) (run : List ℕ) (h : at + length run ≤ l
       ∙ getD-drop (at + length run) out k 0
 
 -- two runs, one after the other, are one run
-pub put-put : (out : List ℕ) (at : ℕ) (a b : List ℕ) → at + length a + length b ≤ length out → putIn (putIn out at a) (at + length a) b ≡ putIn out at (a ++ b)
+pub put-put : (out : List ℕ) (at : ℕ) (a b : List ℕ) → at + length a + length b ≤ length out
+    → putIn (putIn out at a) (at + length a) b ≡ putIn out at (a ++ b)
 unfolding putIn
 put-put out at a b h =
     ap₂ (λ (x y : List ℕ). x ++ b ++ y) (put-take out at a (omega arith)) (put-drop out at a (omega arith) (length b))
     ∙ ap₂ (λ (x : List ℕ) (n : ℕ). x ++ drop n out) (append-assoc (take at out) a b) (add-assoc at (length a) (length b) ∙ ap (λ (n : ℕ). at + n) (sym (length-append a b)))
 
 -- a part of a list is a run exactly if it has the run's bytes
-pub part-is : (s : List ℕ) (at : ℕ) (run : List ℕ) → at + length run ≤ length s → ((k : ℕ) → k < length run → getD s (at + k) 0 ≡ getD run k 0) → take (length run) (drop at s) ≡ run
+pub part-is : (s : List ℕ) (at : ℕ) (run : List ℕ) → at + length run ≤ length s
+    → ((k : ℕ) → k < length run → getD s (at + k) 0 ≡ getD run k 0) → take (length run) (drop at s) ≡ run
 part-is s at run h e =
     let size : length (take (length run) (drop at s)) ≡ length run = length-take-le (length run) (drop at s) (simp length-drop (omega arith)) in
     ext-getD 0 (take (length run) (drop at s)) run size (λ k l. getD-take (length run) (drop at s) k 0 (omega arith) ∙ getD-drop at s k 0 ∙ e k (omega arith))

@@ -59,7 +59,8 @@ first-then (check false m ∷ cs) ds a b = first-then cs ds a b
 pub refused-then : {A B : Type 0} (cs ds : List Check) (a : A) (b : B) (n : ℕ) → firstOf cs a ≡ refused n → firstOf (cs ++ ds) b ≡ refused n
 refused-then cs ds a b n e = first-then cs ds a b ∙ ap (λ (x : Answer _). andThen x (firstOf ds b)) e
 
-pub accepted-then : {A B : Type 0} (cs ds : List Check) (a a′ : A) (b : B) → firstOf cs a ≡ accepted a′ → firstOf (cs ++ ds) b ≡ firstOf ds b
+pub accepted-then : {A B : Type 0} (cs ds : List Check) (a a′ : A) (b : B) → firstOf cs a ≡ accepted a′
+    → firstOf (cs ++ ds) b ≡ firstOf ds b
 accepted-then cs ds a a′ b e = first-then cs ds a b ∙ ap (λ (x : Answer _). andThen x (firstOf ds b)) e
 
 -- one check at a time: it does not hold, and the rest decides; it holds, and its number is the answer; none is left

@@ -16,8 +16,10 @@ module _ (lent : List ℕ) (made : Answer (List ℕ)) (left : List ℕ) where
   wrote-accepted new e l = record { answer = sym (ap (telling (λ (x : List ℕ). tt)) e); bytes = l ∙ sym (ap (leaving (λ (x : List ℕ). x) lent) e) }
 
 -- what is written and told where the operation is known to accept, and where it is known to refuse
-pub when-accepted : (lent : List ℕ) (made : Answer (List ℕ)) (r : Outcome) (left new : List ℕ) → Wrote lent made r left → made ≡ accepted new → (r ≡ Accepted) × (left ≡ new)
+pub when-accepted : (lent : List ℕ) (made : Answer (List ℕ)) (r : Outcome) (left new : List ℕ) → Wrote lent made r left
+    → made ≡ accepted new → (r ≡ Accepted) × (left ≡ new)
 when-accepted lent made r left new w e = only-one-written lent made r Accepted left new w (wrote-accepted lent made new new e refl)
 
-pub when-refused : (lent : List ℕ) (made : Answer (List ℕ)) (r : Outcome) (left : List ℕ) (n : ℕ) → Wrote lent made r left → made ≡ refused n → (r ≡ Refused n) × (left ≡ lent)
+pub when-refused : (lent : List ℕ) (made : Answer (List ℕ)) (r : Outcome) (left : List ℕ) (n : ℕ) → Wrote lent made r left
+    → made ≡ refused n → (r ≡ Refused n) × (left ≡ lent)
 when-refused lent made r left n w e = only-one-written lent made r (Refused n) left lent w (wrote-refused lent made lent n e refl)

@@ -18,7 +18,9 @@ at-top : (c bit : ℕ) → withBit c bit ≡ withBit (bitXor c (bit * 2 ^ 15)) 0
 unfolding withBit
 at-top c bit =
     let none : bit * 2 ^ 15 * 2 % 2 ^ 16 ≡ 0 = omega arith in
-    let up : bitXor c (bit * 2 ^ 15) * 2 % 2 ^ 16 ≡ c * 2 % 2 ^ 16 = ap (λ (n : ℕ). n % 2 ^ 16) (xor-shl 1 c (bit * 2 ^ 15)) ∙ xor-mod (c * 2) (bit * 2 ^ 15 * 2) 16 ∙ ap (bitXor (c * 2 % 2 ^ 16)) none ∙ xor-zero-r (c * 2 % 2 ^ 16) in
+    let up : bitXor c (bit * 2 ^ 15) * 2 % 2 ^ 16 ≡ c * 2 % 2 ^ 16 =
+    ap (λ (n : ℕ). n % 2 ^ 16) (xor-shl 1 c (bit * 2 ^ 15)) ∙ xor-mod (c * 2) (bit * 2 ^ 15 * 2) 16
+    ∙ ap (bitXor (c * 2 % 2 ^ 16)) none ∙ xor-zero-r (c * 2 % 2 ^ 16) in
     let back : bit * 2 ^ 15 / 2 ^ 15 ≡ bit = omega arith in
     let out : bitXor (bitXor c (bit * 2 ^ 15) / 2 ^ 15) 0 ≡ bitXor (c / 2 ^ 15) bit = xor-zero-r (bitXor c (bit * 2 ^ 15) / 2 ^ 15) ∙ xor-shr c (bit * 2 ^ 15) 15 ∙ ap (bitXor (c / 2 ^ 15)) back in
     sym (ap₂ (λ (x y : ℕ). bitXor x (y * polynomial)) up out)
@@ -27,7 +29,9 @@ at-top c bit =
 low-step : (a low : ℕ) → low < 2 ^ 15 → withBit (bitXor a low) 0 ≡ bitXor (withBit a 0) (low * 2)
 unfolding withBit
 low-step a low h =
-    let up : bitXor a low * 2 % 2 ^ 16 ≡ bitXor (a * 2 % 2 ^ 16) (low * 2) = ap (λ (n : ℕ). n % 2 ^ 16) (xor-shl 1 a low) ∙ xor-mod (a * 2) (low * 2) 16 ∙ ap (bitXor (a * 2 % 2 ^ 16)) (mod-eq-of-lt (omega arith)) in
+    let up : bitXor a low * 2 % 2 ^ 16 ≡ bitXor (a * 2 % 2 ^ 16) (low * 2) =
+    ap (λ (n : ℕ). n % 2 ^ 16) (xor-shl 1 a low) ∙ xor-mod (a * 2) (low * 2) 16
+    ∙ ap (bitXor (a * 2 % 2 ^ 16)) (mod-eq-of-lt (omega arith)) in
     let none : low / 2 ^ 15 ≡ 0 = omega arith in
     let out : bitXor a low / 2 ^ 15 ≡ a / 2 ^ 15 = xor-shr a low 15 ∙ ap (bitXor (a / 2 ^ 15)) none ∙ xor-zero-r (a / 2 ^ 15) in
     ap₂ (λ (x y : ℕ). bitXor x (bitXor y 0 * polynomial)) up out ∙ xor-swap (a * 2 % 2 ^ 16) (low * 2) (bitXor (a / 2 ^ 15) 0 * polynomial)
@@ -65,7 +69,10 @@ all-at-top (suc n) c m h =
     let l : low < 2 ^ 15 = omega arith in
     let parts : m ≡ bitXor (top * 2 ^ 15) low = sym (split m 15) ∙ sym (xor-shifted top 15 low l) in
     let up : low * 2 ≡ m * 2 % 2 ^ 16 = omega arith in
-    let one : withBit (bitXor c m) 0 ≡ bitXor (withBit c top) (m * 2 % 2 ^ 16) = ap (λ (x : ℕ). withBit (bitXor c x) 0) parts ∙ ap (λ (x : ℕ). withBit x 0) (sym (xor-assoc c (top * 2 ^ 15) low)) ∙ low-step (bitXor c (top * 2 ^ 15)) low l ∙ ap₂ bitXor (sym (at-top c top)) up in
+    let one : withBit (bitXor c m) 0 ≡ bitXor (withBit c top) (m * 2 % 2 ^ 16) =
+    ap (λ (x : ℕ). withBit (bitXor c x) 0) parts
+    ∙ ap (λ (x : ℕ). withBit x 0) (sym (xor-assoc c (top * 2 ^ 15) low)) ∙ low-step (bitXor c (top * 2 ^ 15)) low l
+    ∙ ap₂ bitXor (sym (at-top c top)) up in
     ap (leave n) one ∙ all-at-top n (withBit c top) (m * 2 % 2 ^ 16) (omega arith)
 
 -- the bits of a byte are the top eight of it times 256 (tested at all 256 by computing), and nothing is left
@@ -98,7 +105,9 @@ pub by-entry : (c b : ℕ) → c < 2 ^ 16 → b < 256 → withBits c (bitsOf b) 
 by-entry c b hc hb =
     let high = bitXor (c / 256) b in
     let l : c % 256 < 2 ^ 8 = omega arith in
-    let e : bitXor c (b * 256) ≡ bitXor (high * 256) (c % 256) = ap₂ bitXor (sym (split c 8)) (sym (add-zero (b * 256))) ∙ xor-block 8 (c / 256) b (c % 256) 0 l (omega arith) ∙ ap (λ (x : ℕ). high * 256 + x) (xor-zero-r (c % 256)) ∙ sym (xor-shifted high 8 (c % 256) l) in
+    let e : bitXor c (b * 256) ≡ bitXor (high * 256) (c % 256) =
+    ap₂ bitXor (sym (split c 8)) (sym (add-zero (b * 256))) ∙ xor-block 8 (c / 256) b (c % 256) 0 l (omega arith)
+    ∙ ap (λ (x : ℕ). high * 256 + x) (xor-zero-r (c % 256)) ∙ sym (xor-shifted high 8 (c % 256) l) in
     byte-at-top c b hb
     ∙ ap (leave 8) e
     ∙ low-steps 8 (high * 256) (c % 256) (omega arith)

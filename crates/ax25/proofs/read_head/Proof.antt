@@ -26,15 +26,26 @@ F c = now (c .args .frame)
 abbrev P : tie.Start → ℕ
 P c = c .args .protocol
 
--- what each address that was read says
-dest : (c : tie.After-destination) → (wellFormed Destination (F (c .before .before .before .before .before)) 0 ≡ true) × (c .destination .given .0 .0 ≡ addressAt (F (c .before .before .before .before .before)) 0)
-dest c = accepted-address Destination (F (c .before .before .before .before .before)) 0 _ (sym (c .before .before .read-address .ensures) ∙ ap addressAnswer (c .destination .given .1))
+-- the function's entry, from past each address
+abbrev D : tie.After-destination → tie.Start
+D c = c .before .before .before .before .before
 
-sour : (c : tie.After-source) → (wellFormed Source (F (c .before .before .before .before .before .before .before .before .before)) 7 ≡ true) × (c .source .given .0 .0 ≡ addressAt (F (c .before .before .before .before .before .before .before .before .before)) 7)
-sour c = accepted-address Source (F (c .before .before .before .before .before .before .before .before .before)) 7 _ (sym (c .before .before .read-address2 .ensures) ∙ ap addressAnswer (c .source .given .1))
+abbrev S : tie.After-source → tie.Start
+S c = c .before .before .before .before .before .before .before .before .before
 
-both : (c : tie.After-source) → (wellFormed Destination (F (c .before .before .before .before .before .before .before .before .before)) 0 && wellFormed Source (F (c .before .before .before .before .before .before .before .before .before)) 7) ≡ true
+-- what each address that was read says, and both
+dest : (c : tie.After-destination) → (wellFormed Destination (F (D c)) 0 ≡ true) × (c .destination .given .0 .0 ≡ addressAt (F (D c)) 0)
+dest c = accepted-address Destination (F (D c)) 0 _ (sym (c .before .before .read-address .ensures) ∙ ap addressAnswer (c .destination .given .1))
+
+sour : (c : tie.After-source) → (wellFormed Source (F (S c)) 7 ≡ true) × (c .source .given .0 .0 ≡ addressAt (F (S c)) 7)
+sour c = accepted-address Source (F (S c)) 7 _ (sym (c .before .before .read-address2 .ensures) ∙ ap addressAnswer (c .source .given .1))
+
+both : (c : tie.After-source) → (wellFormed Destination (F (S c)) 0 && wellFormed Source (F (S c)) 7) ≡ true
 both c = and-both _ _ (dest (c .before .before .before .before) .0) (sour c .0)
+
+-- past both the frame has 16 bytes
+long : (c : tie.After-source) → 16 ≤ length (F (S c))
+long c = c .before .before .before .before .before .before .before .if1 .left
 
 first-bad : (x y : Bool) → x ≡ false → (x && y) ≡ false
 first-bad x y e = rw e
@@ -84,14 +95,10 @@ returns-3 c =
 shared-slice-read-if2 : tie.Need-shared-slice-read-if2
 shared-slice-read-if2 c = search needs
 
--- past both addresses: the frame has 16 bytes
-long : (c : tie.After-source) → 16 ≤ length (F (c .before .before .before .before .before .before .before .before .before))
-long c = c .before .before .before .before .before .before .before .if1 .left
-
 returns-4 : tie.Need-returns-4
 returns-4 c =
     let s = c .before .before .before in
-    let e = s .before .before .before .before .before .before .before .before .before in
+    let e = S s in
     sym (reads-3 (P e) (F e) (long s) (both s) (c .if2 .taken))
 
 shared-slice-read-if3 : tie.Need-shared-slice-read-if3
@@ -100,7 +107,7 @@ shared-slice-read-if3 c = search needs
 returns-5 : tie.Need-returns-5
 returns-5 c =
     let s = c .before .before .before .before .before in
-    let e = s .before .before .before .before .before .before .before .before .before in
+    let e = S s in
     sym (reads-4 (P e) (F e) (long s) (both s) (c .before .before .if2 .left) (c .if3 .taken))
 
 sub-if4 : tie.Need-sub-if4
@@ -109,13 +116,13 @@ sub-if4 c = search needs
 returns-6 : tie.Need-returns-6
 returns-6 c =
     let s = c .before .before .before .before .before .before in
-    let e = s .before .before .before .before .before .before .before .before .before in
+    let e = S s in
     sym (reads-7 (P e) (F e) (long s) (both s) (c .before .before .before .if2 .left) (c .before .if3 .left) (c .if4 .taken))
 
 returns-7 : tie.Need-returns-7
 returns-7 c =
     let s = c .before .before .before .before .before .before in
-    let e = s .before .before .before .before .before .before .before .before .before in
+    let e = S s in
     ap accepted (head (F e) _ _ (dest (s .before .before .before .before) .1) (sour s .1))
     ∙ sym (reads-head (P e) (F e) (long s) (both s) (c .before .before .before .if2 .left) (c .before .if3 .left) (c .if4 .left))
 

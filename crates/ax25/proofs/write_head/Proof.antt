@@ -33,32 +33,43 @@ module _ (out : List ℕ) (d s : Address) (protocol : ℕ) where
 
     -- the three runs, each with room
     module _ (l : 16 ≤ length out) where
-      first : (r : Outcome) (l1 : List ℕ) → Wrote out (writeAddress Destination out 0 d) r l1 → l1 ≡ putIn out 0 (addressBytes Destination d)
+      first : (r : Outcome) (l1 : List ℕ) → Wrote out (writeAddress Destination out 0 d) r l1
+          → l1 ≡ putIn out 0 (addressBytes Destination d)
       first r l1 w = when-accepted out _ r l1 _ w (address-written Destination out 0 d (and-left (goodAddress d) (goodAddress s) good) (le-leb 7 (length out) (omega arith))) .1
 
-      second : (r : Outcome) (l1 l2 : List ℕ) → l1 ≡ putIn out 0 (addressBytes Destination d) → Wrote l1 (writeAddress Source l1 7 s) r l2 → l2 ≡ putIn l1 7 (addressBytes Source s)
+      second : (r : Outcome) (l1 l2 : List ℕ) → l1 ≡ putIn out 0 (addressBytes Destination d) → Wrote l1 (writeAddress Source l1 7 s) r l2
+          → l2 ≡ putIn l1 7 (addressBytes Source s)
       second r l1 l2 e w =
           let size : length l1 ≡ length out = ap length e ∙ put-length out 0 (addressBytes Destination d) (omega arith) in
           when-accepted l1 _ r l2 _ w (address-written Source l1 7 s (and-right (goodAddress d) (goodAddress s) good) (le-leb 14 (length l1) (omega arith))) .1
 
-      third : (r : Bool) (l1 l2 l3 : List ℕ) → l1 ≡ putIn out 0 (addressBytes Destination d) → l2 ≡ putIn l1 7 (addressBytes Source s) → Put l2 14 (0x03 ∷ protocol ∷ []) r l3 → l3 ≡ putIn l2 14 (0x03 ∷ protocol ∷ [])
+      third : (r : Bool) (l1 l2 l3 : List ℕ) → l1 ≡ putIn out 0 (addressBytes Destination d) → l2 ≡ putIn l1 7 (addressBytes Source s)
+          → Put l2 14 (0x03 ∷ protocol ∷ []) r l3 → l3 ≡ putIn l2 14 (0x03 ∷ protocol ∷ [])
       third r l1 l2 l3 e f p =
           let size1 : length l1 ≡ length out = ap length e ∙ put-length out 0 (addressBytes Destination d) (omega arith) in
           let size2 : length l2 ≡ length l1 = ap length f ∙ put-length l1 7 (addressBytes Source s) (omega arith) in
           put-fits l2 14 (0x03 ∷ protocol ∷ []) r l3 p (omega arith) .1
 
-      written : (q r : Outcome) (t : Bool) (l1 l2 l3 : List ℕ) → Wrote out (writeAddress Destination out 0 d) q l1 → Wrote l1 (writeAddress Source l1 7 s) r l2 → Put l2 14 (0x03 ∷ protocol ∷ []) t l3 → Wrote out (writeHead out d s protocol) Accepted l3
+      written : (q r : Outcome) (t : Bool) (l1 l2 l3 : List ℕ) → Wrote out (writeAddress Destination out 0 d) q l1
+          → Wrote l1 (writeAddress Source l1 7 s) r l2 → Put l2 14 (0x03 ∷ protocol ∷ []) t l3
+          → Wrote out (writeHead out d s protocol) Accepted l3
       written q r t l1 l2 l3 w v p =
           let e1 = first q l1 w in
           let e2 = second r l1 l2 e1 v in
           let e3 = third t l1 l2 l3 e1 e2 p in
-          let all : l3 ≡ putIn (putIn (putIn out 0 (addressBytes Destination d)) 7 (addressBytes Source s)) 14 (0x03 ∷ protocol ∷ []) = e3 ∙ ap (λ (x : List ℕ). putIn x 14 (0x03 ∷ protocol ∷ [])) (e2 ∙ ap (λ (x : List ℕ). putIn x 7 (addressBytes Source s)) e1) in
+          let all : l3 ≡ putIn (putIn (putIn out 0 (addressBytes Destination d)) 7 (addressBytes Source s)) 14 (0x03 ∷ protocol ∷ []) =
+          e3
+          ∙ ap (λ (x : List ℕ). putIn x 14 (0x03 ∷ protocol ∷ [])) (e2 ∙ ap (λ (x : List ℕ). putIn x 7 (addressBytes Source s)) e1) in
           wrote-accepted out (writeHead out d s protocol) l3 _ (head-written out d s protocol good l) (all ∙ three-runs out d s protocol l)
 
-both : (c : tie.After-writable2) → (c .before .writable .result && c .writable2 .result) ≡ (goodAddress (c .before .before .before .args .destination) && goodAddress (c .before .before .before .args .source))
+-- both addresses can be written, of the arguments at entry
+abbrev Good : tie.Start → Bool
+Good c = goodAddress (c .args .destination) && goodAddress (c .args .source)
+
+both : (c : tie.After-writable2) → (c .before .writable .result && c .writable2 .result) ≡ Good (c .before .before .before)
 both c = ap₂ (λ (x y : Bool). x && y) (c .before .writable .ensures) (c .writable2 .ensures)
 
-goods : (c : tie.Else1) → (goodAddress (c .before .before .before .before .args .destination) && goodAddress (c .before .before .before .before .args .source)) ≡ true
+goods : (c : tie.Else1) → Good (c .before .before .before .before) ≡ true
 goods c = sym (both (c .before)) ∙ not-false _ (c .if1 .left)
 
 writable-requires : tie.Need-writable-requires

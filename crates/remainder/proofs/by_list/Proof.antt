@@ -13,7 +13,8 @@ use Rattle.remainder.specs.Remainder.{withBits, bitsOf, messageBits, rem
 use Rattle.remainder.proofs.by_list.Statement.{statement}
 use Rattle.remainder.proofs.by_list.Tie as tie
 
-turn : (s : List ℕ) (c d i : ℕ) → d ≡ withBits c (bitsOf (getD s i 0)) → i < length s → withBits d (messageBits (drop (i + 1) s)) ≡ withBits c (messageBits (drop i s))
+turn : (s : List ℕ) (c d i : ℕ) → d ≡ withBits c (bitsOf (getD s i 0)) → i < length s
+    → withBits d (messageBits (drop (i + 1) s)) ≡ withBits c (messageBits (drop i s))
 unfolding withBits messageBits
 turn s c d i e h = ap (λ (n : ℕ). withBits n (messageBits (drop (i + 1) s))) e ∙ rw (add-one, drop-cons s i 0)
 

@@ -19,7 +19,8 @@ short : (s : List ℕ) → length s < 2 → false ≡ checkRight s
 unfolding checkRight
 short s h = sym (ap₂ (λ (x y : Bool). x && y) (lt-leb 2 (length s) h) refl)
 
-whole : (s : List ℕ) (r g : ℕ) → 2 ≤ length s → r ≡ remainderOf (take (length s - 2) s) → g ≡ getD s (length s - 2) 0 * 256 + getD s (length s - 2 + 1) 0 → eqb r g ≡ checkRight s
+whole : (s : List ℕ) (r g : ℕ) → 2 ≤ length s → r ≡ remainderOf (take (length s - 2) s)
+    → g ≡ getD s (length s - 2) 0 * 256 + getD s (length s - 2 + 1) 0 → eqb r g ≡ checkRight s
 unfolding checkRight
 whole s r g h d e = ap₂ eqb d e ∙ sym (ap₂ (λ (x y : Bool). x && y) (le-leb 2 (length s) h) refl)
 

@@ -18,7 +18,8 @@ entry : (list : List ℕ) (x : ℕ) → list ≡ remainderList → x < 256 → g
 unfolding remainderList
 entry list x e h = ap (λ (l : List ℕ). getD l x 0) e ∙ value-at remainderOfByte 0 256 x h
 
-step : (list : List ℕ) (c b : ℕ) → list ≡ remainderList → c < 2 ^ 16 → b < 256 → bitXor (getD list (bitXor (c / 256) b) 0) (c % 256 * 256) ≡ withBits c (bitsOf b)
+step : (list : List ℕ) (c b : ℕ) → list ≡ remainderList → c < 2 ^ 16 → b < 256
+    → bitXor (getD list (bitXor (c / 256) b) 0) (c % 256 * 256) ≡ withBits c (bitsOf b)
 step list c b e hc hb = ap (λ (x : ℕ). bitXor x (c % 256 * 256)) (entry list (bitXor (c / 256) b) e (index-below c b hc hb)) ∙ sym (by-entry c b hc hb)
 
 index : (c : tie.Start) → bitXor (c .args .c / 256) (c .args .b) < 256

@@ -1,5 +1,6 @@
 -- `ax25::spelling::bytes_of` meets its contract: a character of an address that can be written is below 128, its number below 16.
 -- Assumes nothing.
+use Prim.Native.Nat.{_<_}
 use native.Mathlib.Omega.{arith}
 use Rattle.ax25.proofs.AddressLaws.{character-of-good, number-of-good, last-bit-below}
 use borrow.Author.Needs.{needs}
@@ -27,14 +28,24 @@ mul-t8 c = omega (arith, character-of-good (c .before .before .before .before .b
 mul-t9 : tie.Need-mul-t9
 mul-t9 c = omega (arith, character-of-good (c .before .before .before .before .before .before .before .args .a) (c .before .before .before .before .before .before .before .pre) 5)
 
+-- at entry, and what is known there of the number and the last bit
+abbrev S : tie.After-struct-known7 → tie.Start
+S c = c .before .before .before .before .before .before .before .before
+
+number : (c : tie.After-struct-known7) → S c .args .a .number < 16
+number c = number-of-good (S c .args .a) (S c .pre)
+
+last : (c : tie.After-struct-known7) → c .before .before .before .before .before .before .before .last-bit .result < 2
+last c = omega (arith, c .before .before .before .before .before .before .before .last-bit .ensures, last-bit-below (S c .args .role))
+
 mul-t10 : tie.Need-mul-t10
-mul-t10 c = omega (arith, number-of-good (c .before .before .before .before .before .before .before .before .args .a) (c .before .before .before .before .before .before .before .before .pre))
+mul-t10 c = omega (arith, number c)
 
 add-t11 : tie.Need-add-t11
-add-t11 c = omega (arith, number-of-good (c .before .before .before .before .before .before .before .before .args .a) (c .before .before .before .before .before .before .before .before .pre))
+add-t11 c = omega (arith, number c)
 
 add-t12 : tie.Need-add-t12
-add-t12 c = omega (arith, number-of-good (c .before .before .before .before .before .before .before .before .args .a) (c .before .before .before .before .before .before .before .before .pre), c .before .before .before .before .before .before .before .last-bit .ensures, last-bit-below (c .before .before .before .before .before .before .before .before .args .role))
+add-t12 c = omega (arith, number c, last c)
 
 returns : tie.Need-returns
 returns c = simp (c .before .before .before .before .before .before .before .last-bit .ensures)

@@ -27,8 +27,9 @@ is-character-requires-6 c κs = search needs
 returns : tie.Need-returns
 unfolding isName
 returns c =
-    simp
-    (c .is-character6 .ensures, c .before .is-character5 .ensures, c .before .before .is-character4 .ensures, c .before .before .before .is-character3 .ensures, c .before .before .before .before .is-character2 .ensures, c .before .before .before .before .before .is-character .ensures, and-true)
+    let b = c .before in
+    let d = b .before .before in
+    simp (c .is-character6 .ensures, b .is-character5 .ensures, b .before .is-character4 .ensures, d .is-character3 .ensures, d .before .is-character2 .ensures, d .before .before .is-character .ensures, and-true)
 
 pub is-name-spec : {M : Type 1} → statement M
 is-name-spec =

@@ -58,22 +58,30 @@ last-bit-requires c κs = search needs
 is-name-requires : tie.Need-is-name-requires
 is-name-requires c κs = search needs
 
+-- the SSID byte's test, as the code has it
+abbrev right : List ℕ → ℕ → ℕ → Bool
+right s at last = eqb (byteAt s (at + 6) / 128) 0 && eqb (byteAt s (at + 6) / 32 % 4) 3 && eqb (byteAt s (at + 6) % 2) last
+
 whole : (role : Role) (s : List ℕ) (at last : ℕ) (named b : Bool) → last ≡ lastBit role → named ≡ isName (addressAt s at)
-    → (lowBitsClear s at && (eqb (byteAt s (at + 6) / 128) 0 && eqb (byteAt s (at + 6) / 32 % 4) 3 && eqb (byteAt s (at + 6) % 2) last) && named) ≡ b → wellFormed role s at ≡ b
+    → (lowBitsClear s at && right s at last && named) ≡ b → wellFormed role s at ≡ b
 unfolding wellFormed
 whole role s at last named b d e h = rw (← d, ← e) h
 
+-- what the test says of the seven bytes, at entry
+abbrev S : tie.After-is-name → tie.Start
+S c = c .before .before .before .before .before .before .before .before .before .before
+
+test : (c : tie.After-is-name) (b : Bool) → (lowBitsClear (S c .args .s .now) (S c .args .at) && right (S c .args .s .now) (S c .args .at) (c .before .last-bit .result) && c .is-name .result) ≡ b
+    → wellFormed (S c .args .role) (S c .args .s .now) (S c .args .at) ≡ b
+unfolding addressAt
+test c b h = whole (S c .args .role) (S c .args .s .now) (S c .args .at) _ _ b (c .before .last-bit .ensures) (c .is-name .ensures) h
+
 returns : tie.Need-returns
 unfolding addressAt
-returns c =
-    let a = c .before .before .before .before .before .before .before .before .before .before .before .args in
-    sym (address-accepted (a .role) (a .s .now) (a .at) (whole (a .role) (a .s .now) (a .at) (c .before .before .last-bit .result) (c .before .is-name .result) true (c .before .before .last-bit .ensures) (c .before .is-name .ensures) (c .if1 .taken)))
+returns c = sym (address-accepted _ _ _ (test (c .before) true (c .if1 .taken)))
 
 returns-2 : tie.Need-returns-2
-unfolding addressAt
-returns-2 c =
-    let a = c .before .before .before .before .before .before .before .before .before .before .before .args in
-    sym (address-refused (a .role) (a .s .now) (a .at) (whole (a .role) (a .s .now) (a .at) (c .before .before .last-bit .result) (c .before .is-name .result) false (c .before .before .last-bit .ensures) (c .before .is-name .ensures) (c .if1 .left)))
+returns-2 c = sym (address-refused _ _ _ (test (c .before) false (c .if1 .left)))
 
 pub read-spec : {M : Type 1} → statement M
 read-spec =

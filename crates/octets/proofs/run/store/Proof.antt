@@ -12,7 +12,8 @@ use Rattle.octets.specs.Runs.{putIn}
 use Rattle.octets.proofs.run.store.Statement.{statement}
 use Rattle.octets.proofs.run.store.Tie as tie
 
-turn : (out : List ℕ) (at : ℕ) (run o : List ℕ) (i : ℕ) → o ≡ paste out at run i → at + length run ≤ length out → i < length run → set o (at + i) (getD run i 0) ≡ paste out at run (i + 1)
+turn : (out : List ℕ) (at : ℕ) (run o : List ℕ) (i : ℕ) → o ≡ paste out at run i → at + length run ≤ length out → i < length run
+    → set o (at + i) (getD run i 0) ≡ paste out at run (i + 1)
 turn out at run o i e r h = ap (λ (l : List ℕ). set l (at + i) (getD run i 0)) e ∙ paste-suc out at run i 0 (omega arith) h ∙ ap (paste out at run) (sym (add-one i))
 
 done : (out : List ℕ) (at : ℕ) (run : List ℕ) (i : ℕ) → i ≡ length run → paste out at run i ≡ putIn out at run
