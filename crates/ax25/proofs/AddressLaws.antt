@@ -19,7 +19,7 @@ use Rattle.octets.proofs.RunLaws.{part-is}
 use Rattle.ax25.specs.declared.Address.{Address}
 use Rattle.ax25.specs.declared.Role.{Role}
 use Rattle.ax25.specs.declared.Role.the-variants.{Destination, Source}
-use Rattle.ax25.specs.Address.{isCharacter, allSpaces, padded, charactersOf, isName, goodAddress, lastBit, addressBytes, addressAt, lowBitsClear, ssidRight, wellFormed, readChecks, readAddress}
+use Rattle.ax25.specs.Address.{isCharacter, allSpaces, padded, charactersOf, isName, goodAddress, lastBit, addressBytes, addressAt, lowBitsClear, ssidRight, wellFormed, addressReadChecks, readAddress}
 
 -- every character of a name is below 128
 
@@ -167,19 +167,19 @@ module _ (role : Role) (s : List ℕ) (at : ℕ) (formed : wellFormed role s at 
 module _ (role : Role) (s : List ℕ) (at : ℕ) where
   pub address-accepted : wellFormed role s at ≡ true → readAddress role s at ≡ accepted (addressAt s at)
   unfolding readAddress
-  address-accepted w = accepted-if (readChecks role s at) (addressAt s at) (ap not w, tt)
+  address-accepted w = accepted-if (addressReadChecks role s at) (addressAt s at) (ap not w, tt)
 
   pub address-refused : wellFormed role s at ≡ false → readAddress role s at ≡ refused 2
   unfolding readAddress
-  address-refused w = refused-if 2 (readChecks role s at) (addressAt s at) (inl (ap not w, refl))
+  address-refused w = refused-if 2 (addressReadChecks role s at) (addressAt s at) (inl (ap not w, refl))
 
   pub accepted-address : (a : Address) → readAddress role s at ≡ accepted a → (wellFormed role s at ≡ true) × (a ≡ addressAt s at)
   unfolding readAddress
   accepted-address a e =
-      let k = accepted-only-if (readChecks role s at) (addressAt s at) a e in
+      let k = accepted-only-if (addressReadChecks role s at) (addressAt s at) a e in
       (not-false (wellFormed role s at) (k .0 .0), k .1)
 
   pub refused-address : (n : ℕ) → readAddress role s at ≡ refused n → wellFormed role s at ≡ false
   unfolding readAddress
   refused-address n e =
-      ⊎-elim (λ w. not-true (wellFormed role s at) (w .0)) (λ w. absurd (w .1)) (refused-only-if n (readChecks role s at) (addressAt s at) e)
+      ⊎-elim (λ w. not-true (wellFormed role s at) (w .0)) (λ w. absurd (w .1)) (refused-only-if n (addressReadChecks role s at) (addressAt s at) e)

@@ -17,7 +17,7 @@ use Rattle.octets.proofs.RunLaws.{put-put, put-length}
 use Rattle.ax25.specs.declared.Address.{Address}
 use Rattle.ax25.specs.declared.Role.{Role}
 use Rattle.ax25.specs.declared.Role.the-variants.{Destination, Source}
-use Rattle.ax25.specs.Address.{goodAddress, addressBytes, writeChecks, writeAddress}
+use Rattle.ax25.specs.Address.{goodAddress, addressBytes, addressWriteChecks, writeAddress}
 use Rattle.ax25.specs.Head.{headBytes, headWriteChecks, writeHead}
 
 module _ (role : Role) (out : List ℕ) (at : ℕ) (a : Address) where
@@ -39,7 +39,7 @@ module _ (role : Role) (out : List ℕ) (at : ℕ) (a : Address) where
       → (goodAddress a ≡ true) × (at + 7 ≤ length out) × (left ≡ putIn out at (addressBytes role a))
   unfolding writeAddress
   written-address left e =
-      let all = accepted-only-if (writeChecks role out at a) (putIn out at (addressBytes role a)) left e in
+      let all = accepted-only-if (addressWriteChecks role out at a) (putIn out at (addressBytes role a)) left e in
       (not-false _ (all .0 .0), leb-true (at + 7) (length out) (not-false _ (all .0 .1 .0)), all .1)
 
 module _ (out : List ℕ) (d s : Address) (protocol : ℕ) where

@@ -28,6 +28,7 @@ abbrev pub padded : List ℕ → Bool
 padded [] = true
 padded (c ∷ cs) = (isCharacter c && padded cs) || allSpaces (c ∷ cs)
 
+-- its six characters
 abbrev pub charactersOf : Address → List ℕ
 charactersOf a = a .c0 ∷ a .c1 ∷ a .c2 ∷ a .c3 ∷ a .c4 ∷ a .c5 ∷ []
 
@@ -35,7 +36,7 @@ charactersOf a = a .c0 ∷ a .c1 ∷ a .c2 ∷ a .c3 ∷ a .c4 ∷ a .c5 ∷ []
 unfoldable pub isName : Address → Bool
 isName a = padded (charactersOf a) && not (allSpaces (charactersOf a))
 
--- an address that can be written: .. and a number of four bits
+-- an address that can be written: a name, and a number of four bits
 unfoldable pub goodAddress : Address → Bool
 goodAddress a = isName a && ltb (a .number) 16
 
@@ -46,7 +47,8 @@ lastBit Source = 1
 
 -- the seven bytes: each character shifted left by one; bits 6 and 5 of the SSID byte are 11, bits 4 to 1 the number
 abbrev pub addressBytes : Role → Address → List ℕ
-addressBytes role a = a .c0 * 2 ∷ a .c1 * 2 ∷ a .c2 * 2 ∷ a .c3 * 2 ∷ a .c4 * 2 ∷ a .c5 * 2 ∷ (0x60 + a .number * 2 + lastBit role) ∷ []
+addressBytes role a =
+    a .c0 * 2 ∷ a .c1 * 2 ∷ a .c2 * 2 ∷ a .c3 * 2 ∷ a .c4 * 2 ∷ a .c5 * 2 ∷ (0x60 + a .number * 2 + lastBit role) ∷ []
 
 -- what the seven bytes from a place on spell
 unfoldable pub addressAt : List ℕ → ℕ → Address
@@ -79,18 +81,18 @@ unfoldable pub wellFormed : Role → List ℕ → ℕ → Bool
 wellFormed role s at = lowBitsClear s at && ssidRight role (byteAt s (at + 6)) && isName (addressAt s at)
 
 -- reading: 2
-abbrev pub readChecks : Role → List ℕ → ℕ → List Check
-readChecks role s at = check (not (wellFormed role s at)) 2 ∷ []
+abbrev pub addressReadChecks : Role → List ℕ → ℕ → List Check
+addressReadChecks role s at = check (not (wellFormed role s at)) 2 ∷ []
 
 unfoldable pub readAddress : Role → List ℕ → ℕ → Answer Address
-readAddress role s at = firstOf (readChecks role s at) (addressAt s at)
+readAddress role s at = firstOf (addressReadChecks role s at) (addressAt s at)
 
 -- writing into a list from a place on: 2, 12
-abbrev pub writeChecks : Role → List ℕ → ℕ → Address → List Check
-writeChecks role out at a = check (not (goodAddress a)) 2 ∷ check (not (fits out at (addressBytes role a))) 12 ∷ []
+abbrev pub addressWriteChecks : Role → List ℕ → ℕ → Address → List Check
+addressWriteChecks role out at a = check (not (goodAddress a)) 2 ∷ check (not (fits out at (addressBytes role a))) 12 ∷ []
 
 unfoldable pub writeAddress : Role → List ℕ → ℕ → Address → Answer (List ℕ)
-writeAddress role out at a = firstOf (writeChecks role out at a) (putIn out at (addressBytes role a))
+writeAddress role out at a = firstOf (addressWriteChecks role out at a) (putIn out at (addressBytes role a))
 
 -- the paper's number and values for each case of the answer
 abbrev pub addressAnswer : AddressRead → Answer Address

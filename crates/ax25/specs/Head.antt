@@ -16,14 +16,26 @@ use Rattle.ax25.specs.declared.HeadRead.{HeadRead}
 use Rattle.ax25.specs.declared.HeadRead.the-variants.{Accepted, Refused}
 use Rattle.ax25.specs.Address.{goodAddress, addressBytes, addressAt, wellFormed}
 
+-- the bytes before the information: two addresses, control and protocol
+abbrev pub headLength : ℕ
+headLength = 16
+
+-- the most bytes of information
+abbrev pub mostInformation : ℕ
+mostInformation = 255
+
+-- the control byte of every frame
+abbrev pub control : ℕ
+control = 0x03
+
 -- "Order in a frame": 1 (below 16), 2, 3, 4, 7 (over 255)
 unfoldable pub headChecks : ℕ → List ℕ → List Check
 headChecks protocol frame =
-    check (ltb (length frame) 16) 1
+    check (ltb (length frame) headLength) 1
     ∷ check (not (wellFormed Destination frame 0 && wellFormed Source frame 7)) 2
-    ∷ check (not (eqb (byteAt frame 14) 0x03)) 3
+    ∷ check (not (eqb (byteAt frame 14) control)) 3
     ∷ check (not (eqb (byteAt frame 15) protocol)) 4
-    ∷ check (ltb 255 (length frame - 16)) 7
+    ∷ check (ltb mostInformation (length frame - headLength)) 7
     ∷ []
 
 -- both addresses
@@ -35,14 +47,18 @@ readHead protocol frame = firstOf (headChecks protocol frame) (headOf frame)
 
 -- the 16 bytes of a head
 unfoldable pub headBytes : Address → Address → ℕ → List ℕ
-headBytes destination source protocol = addressBytes Destination destination ++ addressBytes Source source ++ 0x03 ∷ protocol ∷ []
+headBytes destination source protocol = addressBytes Destination destination ++ addressBytes Source source ++ control ∷ protocol ∷ []
 
 -- writing it into the first 16 bytes of a list: 2 (either address), 12
 abbrev pub headWriteChecks : List ℕ → Address → Address → List Check
-headWriteChecks out destination source = check (not (goodAddress destination && goodAddress source)) 2 ∷ check (ltb (length out) 16) 12 ∷ []
+headWriteChecks out destination source =
+    check (not (goodAddress destination && goodAddress source)) 2
+    ∷ check (ltb (length out) headLength) 12
+    ∷ []
 
 unfoldable pub writeHead : List ℕ → Address → Address → ℕ → Answer (List ℕ)
-writeHead out destination source protocol = firstOf (headWriteChecks out destination source) (putIn out 0 (headBytes destination source protocol))
+writeHead out destination source protocol =
+    firstOf (headWriteChecks out destination source) (putIn out 0 (headBytes destination source protocol))
 
 -- the paper's number and values for each case of the answer
 abbrev pub headAnswer : HeadRead → Answer Head

@@ -12,6 +12,13 @@ ghost use Rattle.reason.specs.Answer.{Wrote};
 ghost use Rattle.ax25.specs.Address.{goodAddress, addressAnswer, readAddress, writeAddress};
 ghost use Rattle.ax25.specs.Head.{headAnswer, readHead, writeHead};
 
+// The bytes of a frame before its information, the most bytes of information, and the control byte.
+pub const HEAD_LENGTH: usize = 16;
+
+pub const MOST_INFORMATION: usize = 255;
+
+pub const CONTROL: u8 = 0x03;
+
 // A station: six characters, padded at the end with spaces, and the number of its SSID.
 pub struct Address {
     pub c0: u8,
@@ -88,7 +95,7 @@ pub fn write_address(out: &mut [u8], at: usize, a: Address, role: Role) -> Outco
 pub fn read_head(frame: &[u8], protocol: u8) -> HeadRead
     ensures { λ r. ⌜ headAnswer r ≡ readHead protocol (now (frame .entry)) ⌝ }
 {
-    if frame.len() < 16 {
+    if frame.len() < HEAD_LENGTH {
         return HeadRead::Refused(1);
     }
     let AddressRead::Accepted(destination) = read_address(frame, 0, Role::Destination) else {
@@ -97,13 +104,13 @@ pub fn read_head(frame: &[u8], protocol: u8) -> HeadRead
     let AddressRead::Accepted(source) = read_address(frame, 7, Role::Source) else {
         return HeadRead::Refused(2);
     };
-    if frame[14] != 0x03 {
+    if frame[14] != CONTROL {
         return HeadRead::Refused(3);
     }
     if frame[15] != protocol {
         return HeadRead::Refused(4);
     }
-    if 255 < frame.len() - 16 {
+    if MOST_INFORMATION < frame.len() - HEAD_LENGTH {
         return HeadRead::Refused(7);
     }
     HeadRead::Accepted(Head {
@@ -119,11 +126,11 @@ pub fn write_head(out: &mut [u8], destination: Address, source: Address, protoco
     if !(writable(destination) & writable(source)) {
         return Outcome::Refused(2);
     }
-    if out.len() < 16 {
+    if out.len() < HEAD_LENGTH {
         return Outcome::Refused(12);
     }
     write_address(out, 0, destination, Role::Destination);
     write_address(out, 7, source, Role::Source);
-    octets::put(out, 14, &[0x03, protocol]);
+    octets::put(out, 14, &[CONTROL, protocol]);
     Outcome::Accepted
 }
