@@ -1,8 +1,8 @@
 -- The cases of 01 that addresses decide, by computation.
 -- Assumes nothing.
 use mathlib.Core.Path.{_≡_, refl}
-use mathlib.Core.List.{List, [], _∷_, _++_}
-use lib.ListN.{length, take, drop, replicate}
+use mathlib.Core.List.{[], _∷_, _++_}
+use lib.ListN.{replicate}
 use Rattle.reason.specs.Answer.{accepted, refused}
 use Rattle.reason.specs.Order.{firstOf}
 use Rattle.octets.specs.Runs.{putIn}

@@ -1,14 +1,14 @@
 -- Laws of a frame's head: which reason is given, one after the other, and what an accepted head says of the frame.
 -- Assumes nothing.
-use mathlib.Core.Path.{_≡_, refl, sym, ap, _∙_}
-use mathlib.Core.Bool.{Bool, true, false, not, _&&_}
+use mathlib.Core.Path.{_≡_, ap, _∙_}
+use mathlib.Core.Bool.{true, false, not, _&&_}
 use mathlib.Core.List.{List, [], _∷_}
-use Prim.Native.Nat.{ℕ, _+_, _-_, _≤_, _<_}
+use Prim.Native.Nat.{ℕ, _-_, _≤_, _<_}
 use native.Mathlib.Omega.{arith}
-use lib.Dec.{ltb, eqb}
+use lib.Dec.{ltb}
 use lib.ListN.{length}
 use borrow.Author.Tests.{lt-ltb, le-ltb, ltb-false, eq-eqb, ne-eqb, eqb-true, not-false}
-use Rattle.reason.specs.Answer.{Answer, accepted, refused}
+use Rattle.reason.specs.Answer.{accepted, refused}
 use Rattle.reason.specs.Order.{check, firstOf}
 use Rattle.reason.proofs.Bools.{and-left, and-right}
 use Rattle.reason.proofs.OrderLaws.{skip, stop, none-left, accepted-only-if}

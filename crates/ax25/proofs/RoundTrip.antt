@@ -1,7 +1,7 @@
 -- Round trips (demand 2): what is written is read back, and what is accepted is what writing it gives.
 -- Assumes nothing.
-use mathlib.Core.Path.{_≡_, refl, sym, ap, ap₂, _∙_}
-use mathlib.Core.Bool.{Bool, true}
+use mathlib.Core.Path.{_≡_, sym, ap, ap₂, _∙_}
+use mathlib.Core.Bool.{true}
 use mathlib.Core.List.{List, [], _∷_, _++_}
 use Prim.Native.Nat.{ℕ, zero, suc, _+_, _-_, _≤_, _<_}
 use native.Mathlib.Nat.{zero-add}
@@ -21,7 +21,7 @@ use Rattle.ax25.specs.declared.Head.{Head}
 use Rattle.ax25.specs.Address.{goodAddress, addressBytes, addressAt, wellFormed, readAddress, writeAddress}
 use Rattle.ax25.specs.Head.{headOf, headBytes, readHead, writeHead}
 use Rattle.ax25.proofs.AddressLaws.{spelled, formed, good, in-list, bytes-of-address, address-accepted, accepted-address}
-use Rattle.ax25.proofs.HeadLaws.{reads-head, HeadSays, head-says}
+use Rattle.ax25.proofs.HeadLaws.{reads-head, head-says}
 use Rattle.ax25.proofs.WriteLaws.{address-written, written-address, head-written, written-head, three-runs}
 
 -- addresses

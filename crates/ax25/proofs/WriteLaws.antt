@@ -1,19 +1,17 @@
 -- Laws of writing an address and a head: which of the reasons, or what is written.
 -- Assumes nothing.
-use mathlib.Core.Path.{_≡_, refl, sym, ap, _∙_}
-use mathlib.Core.Bool.{Bool, true, false, not, _&&_}
+use mathlib.Core.Path.{_≡_, ap, _∙_}
+use mathlib.Core.Bool.{true, false, not, _&&_}
 use mathlib.Core.List.{List, [], _∷_, _++_}
-use mathlib.Core.Logic.{inl, inr}
 use Prim.Native.Nat.{ℕ, _+_, _≤_, _<_}
 use native.Mathlib.Omega.{arith}
-use lib.Dec.{ltb}
 use lib.ListN.{length}
 use borrow.Author.Tests.{lt-ltb, le-ltb, ltb-false, leb-true, not-false}
-use Rattle.reason.specs.Answer.{Answer, accepted, refused}
+use Rattle.reason.specs.Answer.{accepted, refused}
 use Rattle.reason.proofs.Bools.{and-left, and-right}
 use Rattle.reason.proofs.OrderLaws.{skip, stop, none-left, accepted-only-if}
 use Rattle.octets.specs.Runs.{fits, putIn}
-use Rattle.octets.proofs.RunLaws.{put-put, put-length}
+use Rattle.octets.proofs.RunLaws.{put-put}
 use Rattle.ax25.specs.declared.Address.{Address}
 use Rattle.ax25.specs.declared.Role.{Role}
 use Rattle.ax25.specs.declared.Role.the-variants.{Destination, Source}

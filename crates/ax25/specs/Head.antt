@@ -1,6 +1,6 @@
 -- The head of a frame (01, "Frame"): destination, source, control 0x03 and the protocol; its reasons in their order.
 -- Assumes nothing.
-use mathlib.Core.Bool.{Bool, not, _&&_}
+use mathlib.Core.Bool.{not, _&&_}
 use mathlib.Core.List.{List, [], _∷_, _++_}
 use Prim.Native.Nat.{ℕ, _-_}
 use lib.Dec.{ltb, eqb}

@@ -129,8 +129,10 @@ pub fn write_head(out: &mut [u8], destination: Address, source: Address, protoco
     if out.len() < HEAD_LENGTH {
         return Outcome::Refused(12);
     }
-    write_address(out, 0, destination, Role::Destination);
-    write_address(out, 7, source, Role::Source);
+    let to = spelling::bytes_of(destination, Role::Destination);
+    let from = spelling::bytes_of(source, Role::Source);
+    octets::put(out, 0, &to);
+    octets::put(out, 7, &from);
     octets::put(out, 14, &[CONTROL, protocol]);
     Outcome::Accepted
 }

@@ -7,7 +7,7 @@ use Prim.Native.Nat.{ℕ, zero, suc, _+_, _*_, _/_, _%_, _^_, _≤_, _<_}
 use native.Mathlib.Nat.{pow-suc, add-zero}
 use native.Mathlib.Numerals.{add-one}
 use native.Mathlib.Omega.{arith}
-use lib.ListN.{length, getD, take, drop, List·getD-eq-default, List·getD-append}
+use lib.ListN.{length, take, drop, List·getD-eq-default, List·getD-append}
 use lib.Seq.{drop-cons, getD-drop, getD-take, getD-append-add}
 use Rattle.octets.specs.Numbers.{byteAt, numberAt, bytesOf, AllBytes}
 use Rattle.octets.specs.Runs.{putIn}

@@ -1,13 +1,13 @@
 -- Laws of a run written into a list: what stands where, the length stays, and two neighbours are one run.
 -- Assumes nothing.
-use mathlib.Core.Path.{_≡_, refl, sym, ap, ap₂, _∙_}
+use mathlib.Core.Path.{_≡_, sym, ap, ap₂, _∙_}
 use mathlib.Core.Bool.{Bool, true, false, cond}
-use mathlib.Core.List.{List, [], _∷_, _++_, append-assoc}
+use mathlib.Core.List.{List, _++_, append-assoc}
 use Prim.Native.Nat.{ℕ, _+_, _-_, _≤_, _<_}
-use native.Mathlib.Nat.{add-assoc, add-zero}
+use native.Mathlib.Nat.{add-assoc}
 use native.Mathlib.Omega.{arith}
 use lib.ListN.{length, getD, take, drop, length-append, length-drop, take-append-drop, List·getD-append}
-use lib.Seq.{length-take-le, take-at, drop-at, drop-drop, drop-append-add, getD-append-add, getD-take, getD-drop, ext-getD}
+use lib.Seq.{length-take-le, take-at, drop-drop, drop-append-add, getD-append-add, getD-take, getD-drop, ext-getD}
 use borrow.Author.Tests.{le-leb, lt-leb}
 use Rattle.octets.specs.Runs.{fits, putIn, Put}
 
@@ -88,6 +88,13 @@ unfolding putIn
 put-put out at a b h =
     ap₂ (λ (x y : List ℕ). x ++ b ++ y) (put-take out at a (omega arith)) (put-drop out at a (omega arith) (length b))
     ∙ ap₂ (λ (x : List ℕ) (n : ℕ). x ++ drop n out) (append-assoc (take at out) a b) (add-assoc at (length a) (length b) ∙ ap (λ (n : ℕ). at + n) (sym (length-append a b)))
+
+-- .. as a caller of `put` meets it: what was written so far, and one more `put` right behind it
+pub put-more : (out : List ℕ) (at : ℕ) (a b left : List ℕ) (r : Bool) (after : List ℕ) → left ≡ putIn out at a → Put left (at + length a) b r after
+    → at + length a + length b ≤ length out → after ≡ putIn out at (a ++ b)
+put-more out at a b left r after e p h =
+    let size : length left ≡ length out = ap length e ∙ put-length out at a (omega arith) in
+    put-fits left (at + length a) b r after p (omega arith) .1 ∙ ap (λ (l : List ℕ). putIn l (at + length a) b) e ∙ put-put out at a b h
 
 -- a part of a list is a run exactly if it has the run's bytes
 pub part-is : (s : List ℕ) (at : ℕ) (run : List ℕ) → at + length run ≤ length s

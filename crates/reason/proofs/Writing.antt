@@ -5,7 +5,7 @@ use mathlib.Core.List.{List}
 use Prim.Native.Nat.{ℕ}
 use Rattle.reason.specs.declared.Outcome.{Outcome}
 use Rattle.reason.specs.declared.Outcome.the-variants.{Accepted, Refused}
-use Rattle.reason.specs.Answer.{Answer, accepted, refused, telling, leaving, outcome, Wrote}
+use Rattle.reason.specs.Answer.{Answer, accepted, refused, telling, leaving, Wrote}
 use Rattle.reason.proofs.OnlyOne.{only-one-written}
 
 module _ (lent : List ℕ) (made : Answer (List ℕ)) (left : List ℕ) where

@@ -4,7 +4,7 @@
 use mathlib.Core.Path.{_≡_, refl, sym, ap, ap₂, _∙_}
 use mathlib.Core.List.{List, [], _∷_}
 use Prim.Native.Nat.{ℕ, zero, suc, _+_, _*_, _/_, _%_, _^_, _≤_, _<_}
-use native.Mathlib.Nat.{mod-eq-of-lt, mod-lt, pow-suc, mul-assoc, add-zero, mul-one, le-mul-of-pos-right}
+use native.Mathlib.Nat.{mod-eq-of-lt, pow-suc, add-zero, mul-one, le-mul-of-pos-right}
 use native.Mathlib.Omega.{arith}
 use lib.Pow.{split, pow-pos}
 use lib.Bits.{bitXor, xor-shr, xor-mod, xor-zero-l, xor-zero-r, xor-block, xor-shifted, xor-lt}

@@ -1,7 +1,7 @@
 -- The remainder by the polynomial of 16, 12, 5 and 0, start 0, most significant bit first (01, "Frame"), taken bit by bit.
 -- Assumes nothing.
 use mathlib.Core.List.{List, [], _∷_, _++_}
-use Prim.Native.Nat.{ℕ, zero, suc, _+_, _*_, _/_, _%_, _^_}
+use Prim.Native.Nat.{ℕ, _+_, _*_, _/_, _%_, _^_}
 use lib.Bits.{bitXor}
 
 -- the polynomial's bits below the 16th: 12, 5 and 0

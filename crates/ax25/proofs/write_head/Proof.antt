@@ -1,25 +1,24 @@
--- `ax25::write_head` meets its contract: past its two tests nothing that it calls refuses, and the three runs are one.
+-- `ax25::write_head` meets its contract: past its two tests every run has room, and the three are one.
 -- Assumes nothing.
-use mathlib.Core.Path.{_≡_, refl, sym, ap, ap₂, _∙_}
+use mathlib.Core.Path.{_≡_, refl, sym, ap₂, _∙_}
 use mathlib.Core.Bool.{Bool, true, false, _&&_}
-use mathlib.Core.List.{List, [], _∷_}
+use mathlib.Core.List.{List, [], _∷_, _++_}
 use Prim.Native.Nat.{ℕ, _≤_, _<_}
 use native.Mathlib.Omega.{arith}
 use lib.ListN.{length}
 use borrow.Author.Needs.{needs}
-use borrow.Author.Tests.{le-leb, not-true, not-false}
+use borrow.Author.Tests.{not-true, not-false}
 use Rattle.reason.specs.Answer.{Wrote}
-use Rattle.reason.specs.declared.Outcome.{Outcome}
 use Rattle.reason.specs.declared.Outcome.the-variants.{Accepted, Refused}
 use Rattle.reason.proofs.Bools.{and-left, and-right}
-use Rattle.reason.proofs.Writing.{wrote-refused, wrote-accepted, when-accepted}
+use Rattle.reason.proofs.Writing.{wrote-refused, wrote-accepted}
 use Rattle.octets.specs.Runs.{putIn, Put}
-use Rattle.octets.proofs.RunLaws.{put-length, put-fits}
+use Rattle.octets.proofs.RunLaws.{put-fits, put-more}
 use Rattle.ax25.specs.declared.Address.{Address}
 use Rattle.ax25.specs.declared.Role.the-variants.{Destination, Source}
-use Rattle.ax25.specs.Address.{goodAddress, addressBytes, writeAddress}
-use Rattle.ax25.specs.Head.{headBytes, writeHead}
-use Rattle.ax25.proofs.WriteLaws.{address-written, head-2, head-12, head-written, three-runs}
+use Rattle.ax25.specs.Address.{goodAddress, addressBytes}
+use Rattle.ax25.specs.Head.{control, headBytes, writeHead}
+use Rattle.ax25.proofs.WriteLaws.{head-2, head-12, head-written}
 use Rattle.ax25.proofs.write_head.Statement.{statement}
 use Rattle.ax25.proofs.write_head.Tie as tie
 
@@ -31,36 +30,14 @@ module _ (out : List ℕ) (d s : Address) (protocol : ℕ) where
     short : length out < 16 → Wrote out (writeHead out d s protocol) (Refused 12) out
     short l = wrote-refused out (writeHead out d s protocol) out 12 (head-12 out d s protocol good l) refl
 
-    -- the three runs, each with room
-    module _ (l : 16 ≤ length out) where
-      first : (r : Outcome) (l1 : List ℕ) → Wrote out (writeAddress Destination out 0 d) r l1
-          → l1 ≡ putIn out 0 (addressBytes Destination d)
-      first r l1 w = when-accepted out _ r l1 _ w (address-written Destination out 0 d (and-left (goodAddress d) (goodAddress s) good) (le-leb 7 (length out) (omega arith))) .1
-
-      second : (r : Outcome) (l1 l2 : List ℕ) → l1 ≡ putIn out 0 (addressBytes Destination d) → Wrote l1 (writeAddress Source l1 7 s) r l2
-          → l2 ≡ putIn l1 7 (addressBytes Source s)
-      second r l1 l2 e w =
-          let size : length l1 ≡ length out = ap length e ∙ put-length out 0 (addressBytes Destination d) (omega arith) in
-          when-accepted l1 _ r l2 _ w (address-written Source l1 7 s (and-right (goodAddress d) (goodAddress s) good) (le-leb 14 (length l1) (omega arith))) .1
-
-      third : (r : Bool) (l1 l2 l3 : List ℕ) → l1 ≡ putIn out 0 (addressBytes Destination d) → l2 ≡ putIn l1 7 (addressBytes Source s)
-          → Put l2 14 (0x03 ∷ protocol ∷ []) r l3 → l3 ≡ putIn l2 14 (0x03 ∷ protocol ∷ [])
-      third r l1 l2 l3 e f p =
-          let size1 : length l1 ≡ length out = ap length e ∙ put-length out 0 (addressBytes Destination d) (omega arith) in
-          let size2 : length l2 ≡ length l1 = ap length f ∙ put-length l1 7 (addressBytes Source s) (omega arith) in
-          put-fits l2 14 (0x03 ∷ protocol ∷ []) r l3 p (omega arith) .1
-
-      written : (q r : Outcome) (t : Bool) (l1 l2 l3 : List ℕ) → Wrote out (writeAddress Destination out 0 d) q l1
-          → Wrote l1 (writeAddress Source l1 7 s) r l2 → Put l2 14 (0x03 ∷ protocol ∷ []) t l3
-          → Wrote out (writeHead out d s protocol) Accepted l3
-      written q r t l1 l2 l3 w v p =
-          let e1 = first q l1 w in
-          let e2 = second r l1 l2 e1 v in
-          let e3 = third t l1 l2 l3 e1 e2 p in
-          let all : l3 ≡ putIn (putIn (putIn out 0 (addressBytes Destination d)) 7 (addressBytes Source s)) 14 (0x03 ∷ protocol ∷ []) =
-          e3
-          ∙ ap (λ (x : List ℕ). putIn x 14 (0x03 ∷ protocol ∷ [])) (e2 ∙ ap (λ (x : List ℕ). putIn x 7 (addressBytes Source s)) e1) in
-          wrote-accepted out (writeHead out d s protocol) l3 _ (head-written out d s protocol good l) (all ∙ three-runs out d s protocol l)
+    written : 16 ≤ length out → (to from l1 l2 l3 : List ℕ) (p q r : Bool) → to ≡ addressBytes Destination d → from ≡ addressBytes Source s
+        → Put out 0 to p l1 → Put l1 7 from q l2 → Put l2 14 (control ∷ protocol ∷ []) r l3 → Wrote out (writeHead out d s protocol) Accepted l3
+    unfolding headBytes
+    written l to from l1 l2 l3 p q r dt sf first second third =
+        let e1 : l1 ≡ putIn out 0 (addressBytes Destination d) = put-fits out 0 _ p l1 (rw dt at first) (omega arith) .1 in
+        let e2 : l2 ≡ putIn out 0 (addressBytes Destination d ++ addressBytes Source s) = put-more out 0 _ _ l1 q l2 e1 (rw sf at second) (omega arith) in
+        let e3 : l3 ≡ putIn out 0 (headBytes d s protocol) = put-more out 0 _ _ l2 r l3 e2 third (omega arith) in
+        wrote-accepted out (writeHead out d s protocol) l3 _ (head-written out d s protocol good l) e3
 
 -- both addresses can be written, of the arguments at entry
 abbrev Good : tie.Start → Bool
@@ -88,11 +65,11 @@ returns-2 c =
     let a = c .before .before .before .before .before .args in
     short (a .out .now) (a .destination) (a .source) (a .protocol) (goods (c .before)) (c .if2 .taken)
 
-write-address-requires : tie.Need-write-address-requires
-write-address-requires c κs = search needs
+bytes-of-requires : tie.Need-bytes-of-requires
+bytes-of-requires c κs = let a = c .before .before .before .before .before .args in and-left (goodAddress (a .destination)) (goodAddress (a .source)) (goods (c .before))
 
-write-address-requires-2 : tie.Need-write-address-requires-2
-write-address-requires-2 c κs = search needs
+bytes-of-requires-2 : tie.Need-bytes-of-requires-2
+bytes-of-requires-2 c κs = let a = c .before .before .before .before .before .before .args in and-right (goodAddress (a .destination)) (goodAddress (a .source)) (goods (c .before .before))
 
 slice-aggregate-put : tie.Need-slice-aggregate-put
 slice-aggregate-put c = search needs
@@ -100,17 +77,31 @@ slice-aggregate-put c = search needs
 put-requires : tie.Need-put-requires
 put-requires c κs = search needs
 
+slice-aggregate-put-2 : tie.Need-slice-aggregate-put-2
+slice-aggregate-put-2 c = search needs
+
+put-requires-2 : tie.Need-put-requires-2
+put-requires-2 c κs = search needs
+
+slice-aggregate-put-3 : tie.Need-slice-aggregate-put-3
+slice-aggregate-put-3 c = search needs
+
+put-requires-3 : tie.Need-put-requires-3
+put-requires-3 c κs = search needs
+
 same-length : tie.Need-same-length
 same-length c = search needs
 
 returns-3 : tie.Need-returns-3
 returns-3 c =
-    let p = c .before .before in
-    let w2 = p .before .before .before .before .before in
-    let w1 = w2 .before .before .before .before in
-    let t = w1 .before .before in
+    let p3 = c .before .before in
+    let p2 = p3 .before .before .before .before .before in
+    let p1 = p2 .before .before .before .before .before in
+    let b2 = p1 .before .before .before in
+    let b1 = b2 .before in
+    let t = b1 .before in
     let a = t .before .before .before .before .before .args in
-    written (a .out .now) (a .destination) (a .source) (a .protocol) (goods (t .before)) (t .if2 .left) (w1 .write-address .result) (w2 .write-address2 .result) (p .put .result) _ _ _ (w1 .write-address .ensures) (w2 .write-address2 .ensures) (p .put .ensures)
+    written (a .out .now) (a .destination) (a .source) (a .protocol) (goods (t .before)) (t .if2 .left) _ _ _ _ _ (p1 .put .result) (p2 .put2 .result) (p3 .put3 .result) (b1 .bytes-of .ensures) (b2 .bytes-of2 .ensures) (p1 .put .ensures) (p2 .put2 .ensures) (p3 .put3 .ensures)
 
 pub write-head-spec : {M : Type 1} → statement M
 write-head-spec =
@@ -120,9 +111,13 @@ write-head-spec =
     writable-requires-2
     returns
     returns-2
-    write-address-requires
-    write-address-requires-2
+    bytes-of-requires
+    bytes-of-requires-2
     slice-aggregate-put
     put-requires
+    slice-aggregate-put-2
+    put-requires-2
+    slice-aggregate-put-3
+    put-requires-3
     same-length
     returns-3)
