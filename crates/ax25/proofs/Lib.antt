@@ -1,6 +1,7 @@
 pub mod AddressLaws
 pub mod HeadLaws
 pub mod WriteLaws
+pub mod InOrder
 pub mod RoundTrip
 pub mod OnlyOne
 pub mod Cases

@@ -7,7 +7,7 @@ use mathlib.Core.List.{List, [], _∷_, _++_}
 use Prim.Native.Nat.{ℕ}
 use native.Mathlib.Omega.{arith}
 use Rattle.reason.specs.Answer.{Answer, accepted, refused, andThen}
-use Rattle.reason.specs.Order.{Check, check, firstOf, First, NoneHolds}
+use Rattle.reason.specs.Order.{Check, check, firstOf, First, NoneHolds, Exactly}
 
 -- accepted and refused are never the same answer
 pub not-both : {A : Type 0} {x : Answer A} (a : A) (n : ℕ) → x ≡ accepted a → x ≡ refused n → ⊥
@@ -38,6 +38,15 @@ unfolding firstOf
 accepted-only-if [] a b e = (tt, cc)
 accepted-only-if (check true m ∷ cs) a b e = absurd (not-both b m e refl)
 accepted-only-if (check false m ∷ cs) a b e = let r : NoneHolds cs × (b ≡ a) = accepted-only-if cs a b e in ((refl, r .0), r .1)
+
+-- the four together
+pub exactly : {A : Type 0} (cs : List Check) (a : A) → Exactly cs a (firstOf cs a)
+exactly cs a = record {
+  refuses-if = λ n h. refused-if n cs a h;
+  refuses-only-if = λ n e. refused-only-if n cs a e;
+  accepts-if = λ h. accepted-if cs a h;
+  accepts-only-if = λ b e. accepted-only-if cs a b e;
+}
 
 -- every list of checks answers: with its value, or with the one number that is first
 pub answered : {A : Type 0} (cs : List Check) (a : A) → (firstOf cs a ≡ accepted a) ⊎ ((n : ℕ) × First n cs)

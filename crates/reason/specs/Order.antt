@@ -25,3 +25,11 @@ First n (check holds m ∷ checks) = ((holds ≡ true) × (m ≡ n)) ⊎ ((holds
 abbrev pub NoneHolds : List Check → Type 0
 NoneHolds [] = Unit
 NoneHolds (check holds n ∷ checks) = (holds ≡ false) × NoneHolds checks
+
+-- Demand 1 for one operation, whatever its values are: it refuses with n exactly if n's check is the first that holds, and
+-- accepts exactly if none holds, and then with that value.
+pub record Exactly {A : Type 0} (checks : List Check) (value : A) (answer : Answer A) : Type 0 where
+  pub refuses-if : (n : ℕ) → First n checks → answer ≡ refused n
+  pub refuses-only-if : (n : ℕ) → answer ≡ refused n → First n checks
+  pub accepts-if : NoneHolds checks → answer ≡ accepted value
+  pub accepts-only-if : (a : A) → answer ≡ accepted a → NoneHolds checks × (a ≡ value)
