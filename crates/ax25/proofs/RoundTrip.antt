@@ -6,7 +6,7 @@ use mathlib.Core.List.{List, [], _∷_, _++_}
 use Prim.Native.Nat.{ℕ, zero, suc, _+_, _-_, _≤_, _<_}
 use native.Mathlib.Nat.{zero-add}
 use native.Mathlib.Omega.{arith}
-use lib.ListN.{length, take, drop, List·getD-append}
+use lib.ListN.{length, take, drop, length-append, List·getD-append}
 use lib.Seq.{getD-append-add}
 use borrow.Author.Tests.{le-leb}
 use Rattle.reason.specs.Answer.{accepted}
@@ -19,7 +19,7 @@ use Rattle.ax25.specs.declared.Role.{Role}
 use Rattle.ax25.specs.declared.Role.the-variants.{Destination, Source}
 use Rattle.ax25.specs.declared.Head.{Head}
 use Rattle.ax25.specs.Address.{goodAddress, addressBytes, addressAt, wellFormed, readAddress, writeAddress}
-use Rattle.ax25.specs.Head.{headOf, headBytes, readHead, writeHead}
+use Rattle.ax25.specs.Head.{control, headOf, headBytes, readHead, writeHead}
 use Rattle.ax25.proofs.AddressLaws.{spelled, formed, good, in-list, bytes-of-address, address-accepted, accepted-address}
 use Rattle.ax25.proofs.HeadLaws.{reads-head, head-says}
 use Rattle.ax25.proofs.WriteLaws.{address-written, written-address, head-written, written-head, three-runs}
@@ -59,65 +59,59 @@ address-has-one-meaning role a b ga gb e =
 
 -- heads
 
--- each byte of a written head
-module _ (out : List ℕ) (d s : Address) (protocol : ℕ) (room : 16 ≤ length out) where
-  abbrev left : List ℕ
-  left = putIn out 0 (headBytes d s protocol)
-
-  head-byte : (k : ℕ) → k < 16 → byteAt left k ≡ byteAt (headBytes d s protocol) k
-  unfolding headBytes
-  head-byte k l = ap (byteAt left) (omega arith) ∙ put-within out 0 (headBytes d s protocol) room k l
-
-  destination-byte : (k : ℕ) → k < 7 → byteAt left (0 + k) ≡ byteAt (addressBytes Destination d) k
+-- a frame that begins with the bytes of a head whose addresses can be written, and is not too long, is read as that head
+module _ (d s : Address) (protocol : ℕ) (gd : goodAddress d ≡ true) (gs : goodAddress s ≡ true) (frame : List ℕ) (long : 16 ≤ length frame) (short : length frame ≤ 271) (bytes : (k : ℕ) → k < 16 → byteAt frame k ≡ byteAt (headBytes d s protocol) k) where
+  destination-byte : (k : ℕ) → k < 7 → byteAt frame (0 + k) ≡ byteAt (addressBytes Destination d) k
   unfolding headBytes
   destination-byte k l =
-      ap (byteAt left) (omega arith)
-      ∙ head-byte k (omega arith)
-      ∙ List·getD-append (addressBytes Destination d ++ addressBytes Source s) (0x03 ∷ protocol ∷ []) 0 k (omega arith)
+      ap (byteAt frame) (zero-add k)
+      ∙ bytes k (omega arith)
+      ∙ List·getD-append (addressBytes Destination d ++ addressBytes Source s) (control ∷ protocol ∷ []) 0 k (omega arith)
       ∙ List·getD-append (addressBytes Destination d) (addressBytes Source s) 0 k l
 
-  source-byte : (k : ℕ) → k < 7 → byteAt left (7 + k) ≡ byteAt (addressBytes Source s) k
+  source-byte : (k : ℕ) → k < 7 → byteAt frame (7 + k) ≡ byteAt (addressBytes Source s) k
   unfolding headBytes
   source-byte k l =
-      head-byte (7 + k) (omega arith)
-      ∙ List·getD-append (addressBytes Destination d ++ addressBytes Source s) (0x03 ∷ protocol ∷ []) 0 (7 + k) (omega arith)
+      bytes (7 + k) (omega arith)
+      ∙ List·getD-append (addressBytes Destination d ++ addressBytes Source s) (control ∷ protocol ∷ []) 0 (7 + k) (omega arith)
       ∙ getD-append-add (addressBytes Destination d) (addressBytes Source s) k 0
 
-  control-byte : byteAt left 14 ≡ 0x03
-  unfolding headBytes
-  control-byte = head-byte 14 (omega arith)
+  pub head-bytes-are-read : readHead protocol frame ≡ accepted (record { destination = d; source = s })
+  unfolding headOf headBytes
+  head-bytes-are-read =
+      let both = and-both _ _ (formed Destination d gd frame 0 destination-byte) (formed Source s gs frame 7 source-byte) in
+      reads-head protocol frame long both (bytes 14 (omega arith)) (bytes 15 (omega arith)) (omega arith)
+      ∙ ap₂ (λ (x y : Address). accepted (record { destination = x; source = y })) (spelled Destination d gd frame 0 destination-byte) (spelled Source s gs frame 7 source-byte)
 
-  protocol-byte : byteAt left 15 ≡ protocol
-  unfolding headBytes
-  protocol-byte = head-byte 15 (omega arith)
+-- .. whatever information follows the head, up to 255 bytes
+pub head-before-information : (d s : Address) (protocol : ℕ) (information : List ℕ) → goodAddress d ≡ true → goodAddress s ≡ true → length information ≤ 255
+    → readHead protocol (headBytes d s protocol ++ information) ≡ accepted (record { destination = d; source = s })
+unfolding headBytes
+head-before-information d s protocol information gd gs h =
+    let size = length-append (headBytes d s protocol) information in
+    head-bytes-are-read d s protocol gd gs (headBytes d s protocol ++ information) (omega arith) (omega arith) (λ k l. List·getD-append (headBytes d s protocol) information 0 k l)
 
-  left-length : length left ≡ length out
-  unfolding headBytes
-  left-length = put-length out 0 (headBytes d s protocol) room
-
-  left-is-read : goodAddress d ≡ true → goodAddress s ≡ true → length out ≤ 271 → readHead protocol left ≡ accepted (record { destination = d; source = s })
-  unfolding headOf
-  left-is-read gd gs short =
-      let both = and-both _ _ (formed Destination d gd left 0 destination-byte) (formed Source s gs left 7 source-byte) in
-      reads-head protocol left (omega (arith, left-length)) both control-byte protocol-byte (omega (arith, left-length))
-      ∙ ap₂ (λ (x y : Address). accepted (record { destination = x; source = y })) (spelled Destination d gd left 0 destination-byte) (spelled Source s gs left 7 source-byte)
+-- what is written is read back, where no more than 255 bytes of information follow
+pub written-head-is-read : (out : List ℕ) (d s : Address) (protocol : ℕ) (left : List ℕ) → writeHead out d s protocol ≡ accepted left
+    → length out ≤ 271 → readHead protocol left ≡ accepted (record { destination = d; source = s })
+unfolding headBytes
+written-head-is-read out d s protocol left e short =
+    let w = written-head out d s protocol left e in
+    let size : length left ≡ length out = ap length (w .3) ∙ put-length out 0 (headBytes d s protocol) (w .2) in
+    let bytes : (k : ℕ) → k < 16 → byteAt left k ≡ byteAt (headBytes d s protocol) k = λ k l. ap₂ byteAt (w .3) (sym (zero-add k)) ∙ put-within out 0 (headBytes d s protocol) (w .2) k l in
+    let long : 16 ≤ length left = omega (arith, w .2) in
+    head-bytes-are-read d s protocol (w .0) (w .1) left long (omega arith) bytes
 
 -- the two bytes after the addresses
-at-each : (frame : List ℕ) (protocol : ℕ) → byteAt frame 14 ≡ 0x03 → byteAt frame 15 ≡ protocol → (k : ℕ) → k < 2
-    → byteAt frame (14 + k) ≡ byteAt (0x03 ∷ protocol ∷ []) k
+at-each : (frame : List ℕ) (protocol : ℕ) → byteAt frame 14 ≡ control → byteAt frame 15 ≡ protocol → (k : ℕ) → k < 2
+    → byteAt frame (14 + k) ≡ byteAt (control ∷ protocol ∷ []) k
 at-each frame protocol c p zero l = c
 at-each frame protocol c p (suc zero) l = p
 at-each frame protocol c p (suc (suc k)) l = absurd (omega arith)
 
-two-bytes : (frame : List ℕ) (protocol : ℕ) → 16 ≤ length frame → byteAt frame 14 ≡ 0x03 → byteAt frame 15 ≡ protocol
-    → take 2 (drop 14 frame) ≡ 0x03 ∷ protocol ∷ []
-two-bytes frame protocol l c p = part-is frame 14 (0x03 ∷ protocol ∷ []) l (at-each frame protocol c p)
-
--- what is written is read back, where no more than 255 bytes of information follow
-pub written-head-is-read : (out : List ℕ) (d s : Address) (protocol : ℕ) (left : List ℕ) → writeHead out d s protocol ≡ accepted left → length out ≤ 271 → readHead protocol left ≡ accepted (record { destination = d; source = s })
-written-head-is-read out d s protocol left e short =
-    let w = written-head out d s protocol left e in
-    ap (readHead protocol) (w .3) ∙ left-is-read out d s protocol (w .2) (w .0) (w .1) short
+two-bytes : (frame : List ℕ) (protocol : ℕ) → 16 ≤ length frame → byteAt frame 14 ≡ control → byteAt frame 15 ≡ protocol
+    → take 2 (drop 14 frame) ≡ control ∷ protocol ∷ []
+two-bytes frame protocol l c p = part-is frame 14 (control ∷ protocol ∷ []) l (at-each frame protocol c p)
 
 -- the first 16 bytes of an accepted frame are what writing its head gives, so writing it there again changes nothing
 pub read-head-is-written : (protocol : ℕ) (frame : List ℕ) (head : Head) → readHead protocol frame ≡ accepted head
@@ -132,11 +126,11 @@ read-head-is-written protocol frame head e =
     let s-read : readAddress Source frame 7 ≡ accepted s = address-accepted Source frame 7 (h .source) ∙ ap (λ (x : Head). accepted (x .source)) (sym (h .is)) in
     let d-same : putIn frame 0 (addressBytes Destination d) ≡ frame = put-same frame 0 (addressBytes Destination d) (read-address-is-written Destination frame 0 d d-read .0) in
     let s-same : putIn frame 7 (addressBytes Source s) ≡ frame = put-same frame 7 (addressBytes Source s) (read-address-is-written Source frame 7 s s-read .0) in
-    let two-same : putIn frame 14 (0x03 ∷ protocol ∷ []) ≡ frame = put-same frame 14 (0x03 ∷ protocol ∷ []) (two-bytes frame protocol l (h .control) (h .named)) in
+    let two-same : putIn frame 14 (control ∷ protocol ∷ []) ≡ frame = put-same frame 14 (control ∷ protocol ∷ []) (two-bytes frame protocol l (h .control) (h .named)) in
     let same : putIn frame 0 (headBytes d s protocol) ≡ frame =
     sym (three-runs frame d s protocol l)
-    ∙ ap (λ (x : List ℕ). putIn (putIn x 7 (addressBytes Source s)) 14 (0x03 ∷ protocol ∷ [])) d-same
-    ∙ ap (λ (x : List ℕ). putIn x 14 (0x03 ∷ protocol ∷ [])) s-same ∙ two-same in
+    ∙ ap (λ (x : List ℕ). putIn (putIn x 7 (addressBytes Source s)) 14 (control ∷ protocol ∷ [])) d-same
+    ∙ ap (λ (x : List ℕ). putIn x 14 (control ∷ protocol ∷ [])) s-same ∙ two-same in
     let d-good : goodAddress d ≡ true = ap (λ (x : Head). goodAddress (x .destination)) (h .is) ∙ good Destination frame 0 (h .destination) in
     let s-good : goodAddress s ≡ true = ap (λ (x : Head). goodAddress (x .source)) (h .is) ∙ good Source frame 7 (h .source) in
     (ap (take 16) (sym same) ∙ put-part frame 0 (headBytes d s protocol) l, head-written frame d s protocol (and-both (goodAddress d) (goodAddress s) d-good s-good) l ∙ ap accepted same)

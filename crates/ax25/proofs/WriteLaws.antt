@@ -16,7 +16,7 @@ use Rattle.ax25.specs.declared.Address.{Address}
 use Rattle.ax25.specs.declared.Role.{Role}
 use Rattle.ax25.specs.declared.Role.the-variants.{Destination, Source}
 use Rattle.ax25.specs.Address.{goodAddress, addressBytes, addressWriteChecks, writeAddress}
-use Rattle.ax25.specs.Head.{headBytes, headWriteChecks, writeHead}
+use Rattle.ax25.specs.Head.{control, headBytes, headWriteChecks, writeHead}
 
 module _ (role : Role) (out : List ℕ) (at : ℕ) (a : Address) where
   pub address-2 : goodAddress a ≡ false → writeAddress role out at a ≡ refused 2
@@ -64,8 +64,8 @@ module _ (out : List ℕ) (d s : Address) (protocol : ℕ) where
 
   -- both addresses and the two bytes after them, one after the other, are the head's 16 bytes
   pub three-runs : 16 ≤ length out
-      → putIn (putIn (putIn out 0 (addressBytes Destination d)) 7 (addressBytes Source s)) 14 (0x03 ∷ protocol ∷ []) ≡ putIn out 0 (headBytes d s protocol)
+      → putIn (putIn (putIn out 0 (addressBytes Destination d)) 7 (addressBytes Source s)) 14 (control ∷ protocol ∷ []) ≡ putIn out 0 (headBytes d s protocol)
   unfolding headBytes
   three-runs h =
-      ap (λ (l : List ℕ). putIn l 14 (0x03 ∷ protocol ∷ [])) (put-put out 0 (addressBytes Destination d) (addressBytes Source s) (omega arith))
-      ∙ put-put out 0 (addressBytes Destination d ++ addressBytes Source s) (0x03 ∷ protocol ∷ []) (omega arith)
+      ap (λ (l : List ℕ). putIn l 14 (control ∷ protocol ∷ [])) (put-put out 0 (addressBytes Destination d) (addressBytes Source s) (omega arith))
+      ∙ put-put out 0 (addressBytes Destination d ++ addressBytes Source s) (control ∷ protocol ∷ []) (omega arith)

@@ -11,28 +11,21 @@ use lib.Seq.{length-take-le, take-at, drop-drop, drop-append-add, getD-append-ad
 use borrow.Author.Tests.{le-leb, lt-leb}
 use Rattle.octets.specs.Runs.{fits, putIn, Put}
 
-module _ (out : List ℕ) (at : ℕ) (run : List ℕ) where
-  -- what a caller learns of `put`: with room, the run is written; without, nothing changes
-  pub put-fits : (r : Bool) (left : List ℕ) → Put out at run r left → at + length run ≤ length out → (r ≡ true) × (left ≡ putIn out at run)
-  put-fits r left p h =
-      let e : fits out at run ≡ true = le-leb (at + length run) (length out) h in
-      (p .answer ∙ e, p .bytes ∙ ap (λ (b : Bool). cond b (putIn out at run) out) e)
+-- what a caller learns of `put`, from the room and from its answer
+module _ (out : List ℕ) (at : ℕ) (run : List ℕ) (r : Bool) (left : List ℕ) (p : Put out at run r left) where
+  pub put-by : (b : Bool) → fits out at run ≡ b → (r ≡ b) × (left ≡ cond b (putIn out at run) out)
+  put-by b e = (p .answer ∙ e, p .bytes ∙ ap (λ (x : Bool). cond x (putIn out at run) out) e)
 
-  pub put-short : (r : Bool) (left : List ℕ) → Put out at run r left → length out < at + length run → (r ≡ false) × (left ≡ out)
-  put-short r left p h =
-      let e : fits out at run ≡ false = lt-leb (at + length run) (length out) h in
-      (p .answer ∙ e, p .bytes ∙ ap (λ (b : Bool). cond b (putIn out at run) out) e)
+  -- with room, the run is written; without, nothing changes
+  pub put-fits : at + length run ≤ length out → (r ≡ true) × (left ≡ putIn out at run)
+  put-fits h = put-by true (le-leb (at + length run) (length out) h)
 
-  -- .. and of its answer: it says whether there was room
-  pub put-done : (r : Bool) (left : List ℕ) → Put out at run r left → r ≡ true → (fits out at run ≡ true) × (left ≡ putIn out at run)
-  put-done r left p e =
-      let f : fits out at run ≡ true = sym (p .answer) ∙ e in
-      (f, p .bytes ∙ ap (λ (b : Bool). cond b (putIn out at run) out) f)
+  pub put-short : length out < at + length run → (r ≡ false) × (left ≡ out)
+  put-short h = put-by false (lt-leb (at + length run) (length out) h)
 
-  pub put-not : (r : Bool) (left : List ℕ) → Put out at run r left → r ≡ false → (fits out at run ≡ false) × (left ≡ out)
-  put-not r left p e =
-      let f : fits out at run ≡ false = sym (p .answer) ∙ e in
-      (f, p .bytes ∙ ap (λ (b : Bool). cond b (putIn out at run) out) f)
+  -- its answer says whether there was room
+  pub put-told : (b : Bool) → r ≡ b → (fits out at run ≡ b) × (left ≡ cond b (putIn out at run) out)
+  put-told b e = let f : fits out at run ≡ b = sym (p .answer) ∙ e in (f, put-by b f .1)
 
 module _ (out : List ℕ) (at : ℕ) (run : List ℕ) (h : at + length run ≤ length out) where
   -- what stands before the end of the run

@@ -10,7 +10,7 @@ use Rattle.reason.specs.Answer.{Wrote}
 use Rattle.reason.specs.declared.Outcome.the-variants.{Accepted, Refused}
 use Rattle.reason.proofs.Writing.{wrote-refused, wrote-accepted}
 use Rattle.octets.specs.Runs.{Put}
-use Rattle.octets.proofs.RunLaws.{put-done, put-not}
+use Rattle.octets.proofs.RunLaws.{put-told}
 use Rattle.ax25.specs.declared.Address.{Address}
 use Rattle.ax25.specs.declared.Role.{Role}
 use Rattle.ax25.specs.Address.{goodAddress, addressBytes, writeAddress}
@@ -27,10 +27,10 @@ module _ (role : Role) (out : List ℕ) (at : ℕ) (a : Address) where
     put-it = rw is at p
 
     written : r ≡ true → Wrote out (writeAddress role out at a) Accepted left
-    written t = let k = put-done out at (addressBytes role a) r left put-it t in wrote-accepted out (writeAddress role out at a) left _ (address-written role out at a g (k .0)) (k .1)
+    written t = let k = put-told out at (addressBytes role a) r left put-it true t in wrote-accepted out (writeAddress role out at a) left _ (address-written role out at a g (k .0)) (k .1)
 
     short : r ≡ false → Wrote out (writeAddress role out at a) (Refused 12) left
-    short t = let k = put-not out at (addressBytes role a) r left put-it t in wrote-refused out (writeAddress role out at a) left 12 (address-12 role out at a g (k .0)) (k .1)
+    short t = let k = put-told out at (addressBytes role a) r left put-it false t in wrote-refused out (writeAddress role out at a) left 12 (address-12 role out at a g (k .0)) (k .1)
 
 writable-requires : tie.Need-writable-requires
 writable-requires c κs = search needs
