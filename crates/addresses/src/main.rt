@@ -1,6 +1,6 @@
 // Reads addresses through the library, every byte value at every place, and prints the byte values
-// that are accepted: at each character of a full name and of a short one, and at the SSID byte in
-// both roles. An accepted address is written again, and a question mark stands behind a value whose
+// that are accepted: at each character of a source with a name of six, of two and of one character,
+// and at the SSID byte in both roles. An accepted address is written again, and a question mark stands behind a value whose
 // seven bytes do not come back.
 use ax25::AddressRead;
 use ax25::Role;
@@ -15,9 +15,11 @@ enum Trial {
 
 fn main() {
     let full = [0xAA, 0x9E, 0xA6, 0x82, 0xA8, 0x6A, 0x77];
-    let short = [0x82, 0x62, 0x40, 0x40, 0x40, 0x40, 0x61];
+    let two = [0x82, 0x62, 0x40, 0x40, 0x40, 0x40, 0x61];
+    let one = [0x82, 0x40, 0x40, 0x40, 0x40, 0x40, 0x61];
     characters(b"UOSAT5-11", full);
-    characters(b"A1-0", short);
+    characters(b"A1-0", two);
+    characters(b"A-0", one);
     io::write_all(STDOUT_FILENO, b"SSID of a destination:");
     values(full, 6, Role::Destination);
     io::write_all(STDOUT_FILENO, b"SSID of a source:");

@@ -19,7 +19,7 @@ use Rattle.octets.proofs.RunLaws.{part-is}
 use Rattle.ax25.specs.declared.Address.{Address}
 use Rattle.ax25.specs.declared.Role.{Role}
 use Rattle.ax25.specs.declared.Role.the-variants.{Destination, Source}
-use Rattle.ax25.specs.Address.{isCharacter, allSpaces, padded, charactersOf, isName, goodAddress, lastBit, addressBytes, addressAt, lowBitsClear, ssidRight, wellFormed, addressReadChecks, readAddress}
+use Rattle.ax25.specs.Address.{isCharacter, allSpaces, padded, charactersOf, isName, isWritable, lastBit, addressBytes, addressAt, lowBitsClear, ssidRight, wellFormed, addressReadChecks, readAddress}
 
 -- every character of a name is below 128
 
@@ -44,24 +44,24 @@ padded-below (c ∷ cs) e (suc k) =
 
 -- what an address that can be written says
 
-module _ (a : Address) (good : goodAddress a ≡ true) where
-  pub name-of-good : isName a ≡ true
-  unfolding goodAddress
-  name-of-good = and-left (isName a) (ltb (a .number) 16) good
+module _ (a : Address) (writable : isWritable a ≡ true) where
+  name-of-writable : isName a ≡ true
+  unfolding isWritable
+  name-of-writable = and-left (isName a) (ltb (a .number) 16) writable
 
-  pub number-of-good : a .number < 16
-  unfolding goodAddress
-  number-of-good = ltb-true (a .number) 16 (and-right (isName a) (ltb (a .number) 16) good)
+  pub number-of-writable : a .number < 16
+  unfolding isWritable
+  number-of-writable = ltb-true (a .number) 16 (and-right (isName a) (ltb (a .number) 16) writable)
 
-  pub character-of-good : (k : ℕ) → getD (charactersOf a) k 0 < 128
+  pub character-of-writable : (k : ℕ) → getD (charactersOf a) k 0 < 128
   unfolding isName
-  character-of-good = padded-below (charactersOf a) (and-left (padded (charactersOf a)) (not (allSpaces (charactersOf a))) name-of-good)
+  character-of-writable = padded-below (charactersOf a) (and-left (padded (charactersOf a)) (not (allSpaces (charactersOf a))) name-of-writable)
 
 pub last-bit-below : (role : Role) → lastBit role < 2
 last-bit-below Destination = omega arith
 last-bit-below Source = omega arith
 
--- where the seven bytes from a place on are those of a good address, they are well formed and spell it
+-- where the seven bytes from a place on are those of an address that can be written, they are well formed and spell it
 
 half : (c : ℕ) → c * 2 / 2 ≡ c
 half c = omega arith
@@ -69,28 +69,28 @@ half c = omega arith
 even : (c : ℕ) → c * 2 % 2 ≡ 0
 even c = omega arith
 
-module _ (role : Role) (a : Address) (good : goodAddress a ≡ true) (s : List ℕ) (at : ℕ) (bytes : (k : ℕ) → k < 7 → byteAt s (at + k) ≡ byteAt (addressBytes role a) k) where
+module _ (role : Role) (a : Address) (writable : isWritable a ≡ true) (s : List ℕ) (at : ℕ) (bytes : (k : ℕ) → k < 7 → byteAt s (at + k) ≡ byteAt (addressBytes role a) k) where
   first : byteAt s at ≡ a .c0 * 2
   first = ap (byteAt s) (sym (add-zero at)) ∙ bytes 0 (omega arith)
 
   byte : (k : ℕ) → suc k < 7 → byteAt s (at + suc k) ≡ byteAt (addressBytes role a) (suc k)
   byte k l = bytes (suc k) l
 
-  pub spelled : addressAt s at ≡ a
+  pub bytes-spell : addressAt s at ≡ a
   unfolding addressAt
-  spelled =
+  bytes-spell =
       let l = last-bit-below role in
-      let n : (0x60 + a .number * 2 + lastBit role) / 2 % 16 ≡ a .number = omega (arith, number-of-good a good) in
+      let n : (0x60 + a .number * 2 + lastBit role) / 2 % 16 ≡ a .number = omega (arith, number-of-writable a writable) in
       simp (first, byte 0 (omega arith), byte 1 (omega arith), byte 2 (omega arith), byte 3 (omega arith), byte 4 (omega arith), byte 5 (omega arith), half, n)
 
-  pub formed : wellFormed role s at ≡ true
+  pub bytes-are-formed : wellFormed role s at ≡ true
   unfolding wellFormed
-  formed =
+  bytes-are-formed =
       let l = last-bit-below role in
-      let b7 : (0x60 + a .number * 2 + lastBit role) / 128 ≡ 0 = omega (arith, number-of-good a good) in
-      let b65 : (0x60 + a .number * 2 + lastBit role) / 32 % 4 ≡ 3 = omega (arith, number-of-good a good) in
+      let b7 : (0x60 + a .number * 2 + lastBit role) / 128 ≡ 0 = omega (arith, number-of-writable a writable) in
+      let b65 : (0x60 + a .number * 2 + lastBit role) / 32 % 4 ≡ 3 = omega (arith, number-of-writable a writable) in
       let b0 : (0x60 + a .number * 2 + lastBit role) % 2 ≡ lastBit role = omega arith in
-      simp (spelled, name-of-good a good, first, byte 0 (omega arith), byte 1 (omega arith), byte 2 (omega arith), byte 3 (omega arith), byte 4 (omega arith), byte 5 (omega arith), even, b7, b65, b0, eq-eqb (lastBit role) (lastBit role) refl)
+      simp (bytes-spell, name-of-writable a writable, first, byte 0 (omega arith), byte 1 (omega arith), byte 2 (omega arith), byte 3 (omega arith), byte 4 (omega arith), byte 5 (omega arith), even, b7, b65, b0, eq-eqb (lastBit role) (lastBit role) refl)
 
 -- seven bytes that run past the end are no address
 pub cut-short : (role : Role) (s : List ℕ) (at : ℕ) → length s < at + 7 → wellFormed role s at ≡ false
@@ -136,17 +136,17 @@ module _ (role : Role) (s : List ℕ) (at : ℕ) (formed : wellFormed role s at 
   unfolding wellFormed
   ssid = and-right (lowBitsClear s at) _ (and-left _ (isName (addressAt s at)) formed)
 
-  pub name : isName (addressAt s at) ≡ true
+  pub formed-is-name : isName (addressAt s at) ≡ true
   unfolding wellFormed
-  name = and-right (lowBitsClear s at && ssidRight role (byteAt s (at + 6))) _ formed
+  formed-is-name = and-right (lowBitsClear s at && ssidRight role (byteAt s (at + 6))) _ formed
 
-  pub good : goodAddress (addressAt s at) ≡ true
-  unfolding goodAddress addressAt
-  good = and-both (isName (addressAt s at)) _ name (lt-ltb (byteAt s (at + 6) / 2 % 16) 16 (omega arith))
+  pub formed-is-writable : isWritable (addressAt s at) ≡ true
+  unfolding isWritable addressAt
+  formed-is-writable = and-both (isName (addressAt s at)) _ formed-is-name (lt-ltb (byteAt s (at + 6) / 2 % 16) 16 (omega arith))
 
   -- they are within the list
-  pub in-list : at + 7 ≤ length s
-  in-list = ⊎-elim (λ w. w) (λ w. absurd (true≢false (sym formed ∙ cut-short role s at w))) (le-or-lt (at + 7) (length s))
+  pub formed-in-list : at + 7 ≤ length s
+  formed-in-list = ⊎-elim (λ w. w) (λ w. absurd (true≢false (sym formed ∙ cut-short role s at w))) (le-or-lt (at + 7) (length s))
 
   -- .. and are what writing the address gives
   byte-of : (k : ℕ) → k < 7 → byteAt s (at + k) ≡ byteAt (addressBytes role (addressAt s at)) k
@@ -160,8 +160,8 @@ module _ (role : Role) (s : List ℕ) (at : ℕ) (formed : wellFormed role s at 
   byte-of (suc (suc (suc (suc (suc (suc zero)))))) l = ssids role (byteAt s (at + 6)) ssid
   byte-of (suc (suc (suc (suc (suc (suc (suc k))))))) l = absurd (omega arith)
 
-  pub bytes-of-address : take 7 (drop at s) ≡ addressBytes role (addressAt s at)
-  bytes-of-address = part-is s at (addressBytes role (addressAt s at)) in-list byte-of
+  pub formed-bytes : take 7 (drop at s) ≡ addressBytes role (addressAt s at)
+  formed-bytes = part-is s at (addressBytes role (addressAt s at)) formed-in-list byte-of
 
 -- reading an address: accepted exactly if the bytes are one, and else refused 2
 module _ (role : Role) (s : List ℕ) (at : ℕ) where

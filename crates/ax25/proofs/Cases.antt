@@ -1,30 +1,49 @@
--- The cases of 01 that addresses decide, by computation.
+-- The cases of 01 that addresses and heads decide, and both sides of their limits, by computation.
 -- Assumes nothing.
 use mathlib.Core.Path.{_≡_, refl}
-use mathlib.Core.List.{[], _∷_, _++_}
-use lib.ListN.{replicate}
+use mathlib.Core.List.{List, [], _∷_, _++_}
+use Prim.Native.Nat.{ℕ}
+use lib.ListN.{take, replicate}
 use Rattle.reason.specs.Answer.{accepted, refused}
 use Rattle.reason.specs.Order.{firstOf}
 use Rattle.octets.specs.Runs.{putIn}
 use Rattle.ax25.specs.declared.Role.the-variants.{Destination, Source}
-use Rattle.ax25.specs.Address.{isName, goodAddress, addressAt, wellFormed, readAddress, writeAddress}
+use Rattle.ax25.specs.Address.{isName, isWritable, addressAt, wellFormed, readAddress, writeAddress}
 use Rattle.ax25.specs.Head.{headChecks, headOf, readHead, headBytes, writeHead}
-use Rattle.ax25.specs.Examples.{va3sfl, va3sflBytes, uosat5, uosat5Bytes, uosat5With6C}
+use Rattle.ax25.specs.Examples.{va3sfl, va3sflBytes, uosat5, uosat5Bytes, lowerBytes, spaces, spacesBytes}
+
+-- a head from UOSAT5-11 to VA3SFL-0
+abbrev pub frame : ℕ → ℕ → List ℕ
+frame control protocol = va3sflBytes ++ uosat5Bytes 0x77 ++ control ∷ protocol ∷ []
 
 pub record Cases : Type 0 where
   pub va3sfl-written : writeAddress Destination (replicate 7 0) 0 va3sfl ≡ accepted va3sflBytes
   pub va3sfl-read : readAddress Destination va3sflBytes 0 ≡ accepted va3sfl
-  pub uosat5-written : writeAddress Source (replicate 7 0) 0 uosat5 ≡ accepted uosat5Bytes
-  pub uosat5-read : readAddress Source uosat5Bytes 0 ≡ accepted uosat5
-  pub six-c-in-a-source : readAddress Source uosat5With6C 0 ≡ refused 2
-  pub six-c-in-a-destination : readAddress Destination uosat5With6C 0 ≡ accepted (record { c0 = 0x55; c1 = 0x4F; c2 = 0x53; c3 = 0x41; c4 = 0x54; c5 = 0x35; number = 6 })
-  pub head-written : writeHead (replicate 16 0) va3sfl uosat5 0xBB ≡ accepted (va3sflBytes ++ uosat5Bytes ++ 0x03 ∷ 0xBB ∷ [])
-  pub head-read : readHead 0xBB (va3sflBytes ++ uosat5Bytes ++ 0x03 ∷ 0xBB ∷ []) ≡ accepted (record { destination = va3sfl; source = uosat5 })
-  pub fifteen-bytes : readHead 0xBB (va3sflBytes ++ uosat5Bytes ++ 0x03 ∷ []) ≡ refused 1
-  pub three-before-four : readHead 0xBB (va3sflBytes ++ uosat5Bytes ++ 0x13 ∷ 0xBD ∷ []) ≡ refused 3
+  pub uosat5-written : writeAddress Source (replicate 7 0) 0 (uosat5 11) ≡ accepted (uosat5Bytes 0x77)
+  pub uosat5-read : readAddress Source (uosat5Bytes 0x77) 0 ≡ accepted (uosat5 11)
+  pub six-c-in-a-source : readAddress Source (uosat5Bytes 0x6C) 0 ≡ refused 2
+  pub six-c-in-a-destination : readAddress Destination (uosat5Bytes 0x6C) 0 ≡ accepted (uosat5 6)
+  pub lower-case : readAddress Source lowerBytes 0 ≡ refused 2
+  pub spaces-read : readAddress Destination spacesBytes 0 ≡ refused 2
+  pub spaces-written : writeAddress Destination (replicate 7 0) 0 spaces ≡ refused 2
+  pub number-15 : writeAddress Source (replicate 7 0) 0 (uosat5 15) ≡ accepted (uosat5Bytes 0x7F)
+  pub number-16 : writeAddress Source (replicate 7 0) 0 (uosat5 16) ≡ refused 2
+  pub six-bytes-read : readAddress Source (take 6 (uosat5Bytes 0x77)) 0 ≡ refused 2
+  pub six-bytes-written : writeAddress Source (replicate 6 0) 0 (uosat5 11) ≡ refused 12
+  pub head-written : writeHead (replicate 16 0) va3sfl (uosat5 11) 0xBB ≡ accepted (frame 0x03 0xBB)
+  pub head-read : readHead 0xBB (frame 0x03 0xBB) ≡ accepted (record { destination = va3sfl; source = uosat5 11 })
+  pub source-malformed : writeHead (replicate 16 0) va3sfl spaces 0xBB ≡ refused 2
+  pub target-of-15 : writeHead (replicate 15 0) va3sfl (uosat5 11) 0xBB ≡ refused 12
+  pub frame-of-15 : readHead 0xBB (take 15 (frame 0x03 0xBB)) ≡ refused 1
+  pub source-as-destination : readHead 0xBB (va3sflBytes ++ va3sflBytes ++ 0x03 ∷ 0xBB ∷ []) ≡ refused 2
+  pub control-before-protocol : readHead 0xBB (frame 0x13 0xBD) ≡ refused 3
+  pub protocol : readHead 0xBB (frame 0x03 0xBD) ≡ refused 4
+  pub frame-of-271 : readHead 0xBB (frame 0x03 0xBB ++ replicate 255 0) ≡ accepted (record { destination = va3sfl; source = uosat5 11 })
+  pub frame-of-272 : readHead 0xBB (frame 0x03 0xBB ++ replicate 256 0) ≡ refused 7
+  pub protocol-before-length : readHead 0xBB (frame 0x03 0xBD ++ replicate 256 0) ≡ refused 4
 
 pub cases : Cases
-unfolding firstOf putIn isName goodAddress addressAt wellFormed readAddress writeAddress headChecks headOf headBytes writeHead
+unfolding firstOf putIn isName isWritable addressAt wellFormed readAddress writeAddress headChecks headOf headBytes writeHead
 cases = record {
   va3sfl-written = refl;
   va3sfl-read = refl;
@@ -32,8 +51,22 @@ cases = record {
   uosat5-read = refl;
   six-c-in-a-source = refl;
   six-c-in-a-destination = refl;
+  lower-case = refl;
+  spaces-read = refl;
+  spaces-written = refl;
+  number-15 = refl;
+  number-16 = refl;
+  six-bytes-read = refl;
+  six-bytes-written = refl;
   head-written = refl;
   head-read = refl;
-  fifteen-bytes = refl;
-  three-before-four = refl;
+  source-malformed = refl;
+  target-of-15 = refl;
+  frame-of-15 = refl;
+  source-as-destination = refl;
+  control-before-protocol = refl;
+  protocol = refl;
+  frame-of-271 = refl;
+  frame-of-272 = refl;
+  protocol-before-length = refl;
 }

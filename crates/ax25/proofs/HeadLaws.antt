@@ -16,17 +16,17 @@ use Rattle.octets.specs.Numbers.{byteAt}
 use Rattle.ax25.specs.declared.Role.the-variants.{Destination, Source}
 use Rattle.ax25.specs.declared.Head.{Head}
 use Rattle.ax25.specs.Address.{wellFormed}
-use Rattle.ax25.specs.Head.{headChecks, headOf, readHead}
+use Rattle.ax25.specs.Head.{headLength, mostInformation, longestFrame, control, headChecks, headOf, readHead}
 
 -- each reason in its turn, and acceptance when none holds
 
 module _ (protocol : ℕ) (frame : List ℕ) where
-  pub reads-1 : length frame < 16 → readHead protocol frame ≡ refused 1
+  pub reads-1 : length frame < headLength → readHead protocol frame ≡ refused 1
   unfolding headChecks
   reads-1 h = stop _ _ _ (lt-ltb _ _ h)
 
-  module _ (long : 16 ≤ length frame) where
-    past-1 : ltb (length frame) 16 ≡ false
+  module _ (long : headLength ≤ length frame) where
+    past-1 : ltb (length frame) headLength ≡ false
     past-1 = le-ltb _ _ long
 
     pub reads-2 : (wellFormed Destination frame 0 && wellFormed Source frame 7) ≡ false → readHead protocol frame ≡ refused 2
@@ -34,33 +34,33 @@ module _ (protocol : ℕ) (frame : List ℕ) where
     reads-2 h = skip _ _ _ past-1 ∙ stop _ _ _ (ap not h)
 
     module _ (addresses : (wellFormed Destination frame 0 && wellFormed Source frame 7) ≡ true) where
-      pub reads-3 : (byteAt frame 14 ≡ 0x03 → ⊥) → readHead protocol frame ≡ refused 3
+      pub reads-3 : (byteAt frame 14 ≡ control → ⊥) → readHead protocol frame ≡ refused 3
       unfolding headChecks
       reads-3 h = skip _ _ _ past-1 ∙ skip _ _ _ (ap not addresses) ∙ stop _ _ _ (ap not (ne-eqb _ _ h))
 
-      module _ (control : byteAt frame 14 ≡ 0x03) where
+      module _ (controlled : byteAt frame 14 ≡ control) where
         pub reads-4 : (byteAt frame 15 ≡ protocol → ⊥) → readHead protocol frame ≡ refused 4
         unfolding headChecks
-        reads-4 h = skip _ _ _ past-1 ∙ skip _ _ _ (ap not addresses) ∙ skip _ _ _ (ap not (eq-eqb _ _ control)) ∙ stop _ _ _ (ap not (ne-eqb _ _ h))
+        reads-4 h = skip _ _ _ past-1 ∙ skip _ _ _ (ap not addresses) ∙ skip _ _ _ (ap not (eq-eqb _ _ controlled)) ∙ stop _ _ _ (ap not (ne-eqb _ _ h))
 
         module _ (named : byteAt frame 15 ≡ protocol) where
-          past-4 : readHead protocol frame ≡ firstOf (check (ltb 255 (length frame - 16)) 7 ∷ []) (headOf frame)
+          past-4 : readHead protocol frame ≡ firstOf (check (ltb mostInformation (length frame - headLength)) 7 ∷ []) (headOf frame)
           unfolding headChecks
-          past-4 = skip _ _ _ past-1 ∙ skip _ _ _ (ap not addresses) ∙ skip _ _ _ (ap not (eq-eqb _ _ control)) ∙ skip _ _ _ (ap not (eq-eqb _ _ named))
+          past-4 = skip _ _ _ past-1 ∙ skip _ _ _ (ap not addresses) ∙ skip _ _ _ (ap not (eq-eqb _ _ controlled)) ∙ skip _ _ _ (ap not (eq-eqb _ _ named))
 
-          pub reads-7 : 255 < length frame - 16 → readHead protocol frame ≡ refused 7
+          pub reads-7 : mostInformation < length frame - headLength → readHead protocol frame ≡ refused 7
           reads-7 h = past-4 ∙ stop _ _ _ (lt-ltb _ _ h)
 
-          pub reads-head : length frame - 16 ≤ 255 → readHead protocol frame ≡ accepted (headOf frame)
+          pub reads-head : length frame - headLength ≤ mostInformation → readHead protocol frame ≡ accepted (headOf frame)
           reads-head h = past-4 ∙ skip _ _ _ (le-ltb _ _ h) ∙ none-left _
 
 -- what an accepted head says of the frame
 pub record HeadSays (protocol : ℕ) (frame : List ℕ) (head : Head) : Type 0 where
-  pub long : 16 ≤ length frame
-  pub short : length frame ≤ 271
+  pub long : headLength ≤ length frame
+  pub short : length frame ≤ longestFrame
   pub destination : wellFormed Destination frame 0 ≡ true
   pub source : wellFormed Source frame 7 ≡ true
-  pub control : byteAt frame 14 ≡ 0x03
+  pub controlled : byteAt frame 14 ≡ control
   pub named : byteAt frame 15 ≡ protocol
   pub is : head ≡ headOf frame
 
@@ -72,14 +72,14 @@ head-says protocol frame head e =
     let d = wellFormed Destination frame 0 in
     let s = wellFormed Source frame 7 in
     let both : (d && s) ≡ true = not-false (d && s) (none .1 .0) in
-    let most : length frame - 16 ≤ 255 = ltb-false 255 (length frame - 16) (none .1 .1 .1 .1 .0) in
-    let least : 16 ≤ length frame = ltb-false (length frame) 16 (none .0) in
+    let most : length frame - headLength ≤ mostInformation = ltb-false mostInformation (length frame - headLength) (none .1 .1 .1 .1 .0) in
+    let least : headLength ≤ length frame = ltb-false (length frame) headLength (none .0) in
     record {
       long = least;
       short = omega arith;
       destination = and-left d s both;
       source = and-right d s both;
-      control = eqb-true _ _ (not-false _ (none .1 .1 .0));
+      controlled = eqb-true _ _ (not-false _ (none .1 .1 .0));
       named = eqb-true _ _ (not-false _ (none .1 .1 .1 .0));
       is = all .1;
     }

@@ -14,26 +14,26 @@ use Rattle.ax25.specs.declared.AddressRead.the-variants as address
 use Rattle.ax25.specs.declared.Head.{Head}
 use Rattle.ax25.specs.declared.HeadRead.{HeadRead}
 use Rattle.ax25.specs.declared.HeadRead.the-variants as head
-use Rattle.ax25.specs.Address.{goodAddress, addressAnswer, readAddress, writeAddress}
+use Rattle.ax25.specs.Address.{isWritable, addressAnswer, readAddress, writeAddress}
 use Rattle.ax25.specs.Head.{headAnswer, readHead, writeHead}
 
 -- `writable`
-pub only-one-writable : (a : Address) (r q : Bool) → r ≡ goodAddress a → q ≡ goodAddress a → r ≡ q
+pub only-one-writable : (a : Address) (r q : Bool) → r ≡ isWritable a → q ≡ isWritable a → r ≡ q
 only-one-writable a r q = only-one r q
 
 -- `read_address`
-address-made : Answer Address → AddressRead
-address-made (accepted a) = address.Accepted a
-address-made (refused n) = address.Refused n
+address-case : Answer Address → AddressRead
+address-case (accepted a) = address.Accepted a
+address-case (refused n) = address.Refused n
 
-address-back : (r : AddressRead) → address-made (addressAnswer r) ≡ r
-unfolding address-made
+address-back : (r : AddressRead) → address-case (addressAnswer r) ≡ r
+unfolding address-case
 address-back (address.Accepted a) = refl
 address-back (address.Refused n) = refl
 
 pub only-one-address : (role : Role) (s : List ℕ) (at : ℕ) (r q : AddressRead) → addressAnswer r ≡ readAddress role s at
     → addressAnswer q ≡ readAddress role s at → r ≡ q
-only-one-address role s at r q = only-one-meant addressAnswer address-made address-back r q
+only-one-address role s at r q = only-one-meant addressAnswer address-case address-back r q
 
 -- `write_address`
 pub only-one-address-written : (role : Role) (out : List ℕ) (at : ℕ) (a : Address) (r q : Outcome) (left also : List ℕ)
@@ -41,18 +41,18 @@ pub only-one-address-written : (role : Role) (out : List ℕ) (at : ℕ) (a : Ad
 only-one-address-written role out at a r q left also = only-one-written out (writeAddress role out at a) r q left also
 
 -- `read_head`
-head-made : Answer Head → HeadRead
-head-made (accepted h) = head.Accepted h
-head-made (refused n) = head.Refused n
+head-case : Answer Head → HeadRead
+head-case (accepted h) = head.Accepted h
+head-case (refused n) = head.Refused n
 
-head-back : (r : HeadRead) → head-made (headAnswer r) ≡ r
-unfolding head-made
+head-back : (r : HeadRead) → head-case (headAnswer r) ≡ r
+unfolding head-case
 head-back (head.Accepted h) = refl
 head-back (head.Refused n) = refl
 
 pub only-one-head : (protocol : ℕ) (frame : List ℕ) (r q : HeadRead) → headAnswer r ≡ readHead protocol frame
     → headAnswer q ≡ readHead protocol frame → r ≡ q
-only-one-head protocol frame r q = only-one-meant headAnswer head-made head-back r q
+only-one-head protocol frame r q = only-one-meant headAnswer head-case head-back r q
 
 -- `write_head`
 pub only-one-head-written : (out : List ℕ) (d s : Address) (protocol : ℕ) (r q : Outcome) (left also : List ℕ)

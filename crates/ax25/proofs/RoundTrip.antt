@@ -18,18 +18,18 @@ use Rattle.ax25.specs.declared.Address.{Address}
 use Rattle.ax25.specs.declared.Role.{Role}
 use Rattle.ax25.specs.declared.Role.the-variants.{Destination, Source}
 use Rattle.ax25.specs.declared.Head.{Head}
-use Rattle.ax25.specs.Address.{goodAddress, addressBytes, addressAt, wellFormed, readAddress, writeAddress}
-use Rattle.ax25.specs.Head.{control, headOf, headBytes, readHead, writeHead}
-use Rattle.ax25.proofs.AddressLaws.{spelled, formed, good, in-list, bytes-of-address, address-accepted, accepted-address}
+use Rattle.ax25.specs.Address.{isWritable, addressBytes, addressAt, wellFormed, readAddress, writeAddress}
+use Rattle.ax25.specs.Head.{headLength, mostInformation, longestFrame, control, headOf, headBytes, readHead, writeHead}
+use Rattle.ax25.proofs.AddressLaws.{bytes-spell, bytes-are-formed, formed-is-writable, formed-in-list, formed-bytes, address-accepted, accepted-address}
 use Rattle.ax25.proofs.HeadLaws.{reads-head, head-says}
 use Rattle.ax25.proofs.WriteLaws.{address-written, written-address, head-written, written-head, three-runs}
 
 -- addresses
 
 -- the seven bytes of an address that can be written, wherever they stand, are read as that address
-read-of-bytes : (role : Role) (a : Address) → goodAddress a ≡ true → (s : List ℕ) (at : ℕ)
+read-of-bytes : (role : Role) (a : Address) → isWritable a ≡ true → (s : List ℕ) (at : ℕ)
     → ((k : ℕ) → k < 7 → byteAt s (at + k) ≡ byteAt (addressBytes role a) k) → readAddress role s at ≡ accepted a
-read-of-bytes role a g s at bytes = address-accepted role s at (formed role a g s at bytes) ∙ ap accepted (spelled role a g s at bytes)
+read-of-bytes role a g s at bytes = address-accepted role s at (bytes-are-formed role a g s at bytes) ∙ ap accepted (bytes-spell role a g s at bytes)
 
 -- what is written is read back
 pub written-address-is-read : (role : Role) (out : List ℕ) (at : ℕ) (a : Address) (left : List ℕ)
@@ -45,22 +45,22 @@ read-address-is-written role s at a e =
     let k = accepted-address role s at a e in
     let w : wellFormed role s at ≡ true = k .0 in
     let is : addressAt s at ≡ a = sym (k .1) in
-    let bytes : take 7 (drop at s) ≡ addressBytes role a = bytes-of-address role s at w ∙ ap (addressBytes role) is in
-    let g : goodAddress a ≡ true = ap goodAddress (sym is) ∙ good role s at w in
-    let room : fits s at (addressBytes role a) ≡ true = le-leb (at + 7) (length s) (in-list role s at w) in
+    let bytes : take 7 (drop at s) ≡ addressBytes role a = formed-bytes role s at w ∙ ap (addressBytes role) is in
+    let g : isWritable a ≡ true = ap isWritable (sym is) ∙ formed-is-writable role s at w in
+    let room : fits s at (addressBytes role a) ≡ true = le-leb (at + 7) (length s) (formed-in-list role s at w) in
     (bytes, address-written role s at a g room ∙ ap accepted (put-same s at (addressBytes role a) bytes))
 
 -- two addresses that can be written and have the same bytes are one
-pub address-has-one-meaning : (role : Role) (a b : Address) → goodAddress a ≡ true → goodAddress b ≡ true
+pub address-has-one-meaning : (role : Role) (a b : Address) → isWritable a ≡ true → isWritable b ≡ true
     → addressBytes role a ≡ addressBytes role b → a ≡ b
 address-has-one-meaning role a b ga gb e =
-    sym (spelled role a ga (addressBytes role a) 0 (λ k l. ap (byteAt (addressBytes role a)) (zero-add k)))
-    ∙ spelled role b gb (addressBytes role a) 0 (λ k l. ap₂ byteAt e (zero-add k))
+    sym (bytes-spell role a ga (addressBytes role a) 0 (λ k l. ap (byteAt (addressBytes role a)) (zero-add k)))
+    ∙ bytes-spell role b gb (addressBytes role a) 0 (λ k l. ap₂ byteAt e (zero-add k))
 
 -- heads
 
 -- a frame that begins with the bytes of a head whose addresses can be written, and is not too long, is read as that head
-module _ (d s : Address) (protocol : ℕ) (gd : goodAddress d ≡ true) (gs : goodAddress s ≡ true) (frame : List ℕ) (long : 16 ≤ length frame) (short : length frame ≤ 271) (bytes : (k : ℕ) → k < 16 → byteAt frame k ≡ byteAt (headBytes d s protocol) k) where
+module _ (d s : Address) (protocol : ℕ) (gd : isWritable d ≡ true) (gs : isWritable s ≡ true) (frame : List ℕ) (long : headLength ≤ length frame) (short : length frame ≤ longestFrame) (bytes : (k : ℕ) → k < headLength → byteAt frame k ≡ byteAt (headBytes d s protocol) k) where
   destination-byte : (k : ℕ) → k < 7 → byteAt frame (0 + k) ≡ byteAt (addressBytes Destination d) k
   unfolding headBytes
   destination-byte k l =
@@ -79,12 +79,12 @@ module _ (d s : Address) (protocol : ℕ) (gd : goodAddress d ≡ true) (gs : go
   pub head-bytes-are-read : readHead protocol frame ≡ accepted (record { destination = d; source = s })
   unfolding headOf headBytes
   head-bytes-are-read =
-      let both = and-both _ _ (formed Destination d gd frame 0 destination-byte) (formed Source s gs frame 7 source-byte) in
+      let both = and-both _ _ (bytes-are-formed Destination d gd frame 0 destination-byte) (bytes-are-formed Source s gs frame 7 source-byte) in
       reads-head protocol frame long both (bytes 14 (omega arith)) (bytes 15 (omega arith)) (omega arith)
-      ∙ ap₂ (λ (x y : Address). accepted (record { destination = x; source = y })) (spelled Destination d gd frame 0 destination-byte) (spelled Source s gs frame 7 source-byte)
+      ∙ ap₂ (λ (x y : Address). accepted (record { destination = x; source = y })) (bytes-spell Destination d gd frame 0 destination-byte) (bytes-spell Source s gs frame 7 source-byte)
 
 -- .. whatever information follows the head, up to 255 bytes
-pub head-before-information : (d s : Address) (protocol : ℕ) (information : List ℕ) → goodAddress d ≡ true → goodAddress s ≡ true → length information ≤ 255
+pub head-before-information : (d s : Address) (protocol : ℕ) (information : List ℕ) → isWritable d ≡ true → isWritable s ≡ true → length information ≤ mostInformation
     → readHead protocol (headBytes d s protocol ++ information) ≡ accepted (record { destination = d; source = s })
 unfolding headBytes
 head-before-information d s protocol information gd gs h =
@@ -93,13 +93,13 @@ head-before-information d s protocol information gd gs h =
 
 -- what is written is read back, where no more than 255 bytes of information follow
 pub written-head-is-read : (out : List ℕ) (d s : Address) (protocol : ℕ) (left : List ℕ) → writeHead out d s protocol ≡ accepted left
-    → length out ≤ 271 → readHead protocol left ≡ accepted (record { destination = d; source = s })
+    → length out ≤ longestFrame → readHead protocol left ≡ accepted (record { destination = d; source = s })
 unfolding headBytes
 written-head-is-read out d s protocol left e short =
     let w = written-head out d s protocol left e in
     let size : length left ≡ length out = ap length (w .3) ∙ put-length out 0 (headBytes d s protocol) (w .2) in
-    let bytes : (k : ℕ) → k < 16 → byteAt left k ≡ byteAt (headBytes d s protocol) k = λ k l. ap₂ byteAt (w .3) (sym (zero-add k)) ∙ put-within out 0 (headBytes d s protocol) (w .2) k l in
-    let long : 16 ≤ length left = omega (arith, w .2) in
+    let bytes : (k : ℕ) → k < headLength → byteAt left k ≡ byteAt (headBytes d s protocol) k = λ k l. ap₂ byteAt (w .3) (sym (zero-add k)) ∙ put-within out 0 (headBytes d s protocol) (w .2) k l in
+    let long : headLength ≤ length left = omega (arith, w .2) in
     head-bytes-are-read d s protocol (w .0) (w .1) left long (omega arith) bytes
 
 -- the two bytes after the addresses
@@ -109,13 +109,13 @@ at-each frame protocol c p zero l = c
 at-each frame protocol c p (suc zero) l = p
 at-each frame protocol c p (suc (suc k)) l = absurd (omega arith)
 
-two-bytes : (frame : List ℕ) (protocol : ℕ) → 16 ≤ length frame → byteAt frame 14 ≡ control → byteAt frame 15 ≡ protocol
+two-bytes : (frame : List ℕ) (protocol : ℕ) → headLength ≤ length frame → byteAt frame 14 ≡ control → byteAt frame 15 ≡ protocol
     → take 2 (drop 14 frame) ≡ control ∷ protocol ∷ []
 two-bytes frame protocol l c p = part-is frame 14 (control ∷ protocol ∷ []) l (at-each frame protocol c p)
 
 -- the first 16 bytes of an accepted frame are what writing its head gives, so writing it there again changes nothing
 pub read-head-is-written : (protocol : ℕ) (frame : List ℕ) (head : Head) → readHead protocol frame ≡ accepted head
-    → (take 16 frame ≡ headBytes (head .destination) (head .source) protocol) × (writeHead frame (head .destination) (head .source) protocol ≡ accepted frame)
+    → (take headLength frame ≡ headBytes (head .destination) (head .source) protocol) × (writeHead frame (head .destination) (head .source) protocol ≡ accepted frame)
 unfolding headOf headBytes
 read-head-is-written protocol frame head e =
     let h = head-says protocol frame head e in
@@ -126,11 +126,11 @@ read-head-is-written protocol frame head e =
     let s-read : readAddress Source frame 7 ≡ accepted s = address-accepted Source frame 7 (h .source) ∙ ap (λ (x : Head). accepted (x .source)) (sym (h .is)) in
     let d-same : putIn frame 0 (addressBytes Destination d) ≡ frame = put-same frame 0 (addressBytes Destination d) (read-address-is-written Destination frame 0 d d-read .0) in
     let s-same : putIn frame 7 (addressBytes Source s) ≡ frame = put-same frame 7 (addressBytes Source s) (read-address-is-written Source frame 7 s s-read .0) in
-    let two-same : putIn frame 14 (control ∷ protocol ∷ []) ≡ frame = put-same frame 14 (control ∷ protocol ∷ []) (two-bytes frame protocol l (h .control) (h .named)) in
+    let two-same : putIn frame 14 (control ∷ protocol ∷ []) ≡ frame = put-same frame 14 (control ∷ protocol ∷ []) (two-bytes frame protocol l (h .controlled) (h .named)) in
     let same : putIn frame 0 (headBytes d s protocol) ≡ frame =
     sym (three-runs frame d s protocol l)
     ∙ ap (λ (x : List ℕ). putIn (putIn x 7 (addressBytes Source s)) 14 (control ∷ protocol ∷ [])) d-same
     ∙ ap (λ (x : List ℕ). putIn x 14 (control ∷ protocol ∷ [])) s-same ∙ two-same in
-    let d-good : goodAddress d ≡ true = ap (λ (x : Head). goodAddress (x .destination)) (h .is) ∙ good Destination frame 0 (h .destination) in
-    let s-good : goodAddress s ≡ true = ap (λ (x : Head). goodAddress (x .source)) (h .is) ∙ good Source frame 7 (h .source) in
-    (ap (take 16) (sym same) ∙ put-part frame 0 (headBytes d s protocol) l, head-written frame d s protocol (and-both (goodAddress d) (goodAddress s) d-good s-good) l ∙ ap accepted same)
+    let d-good : isWritable d ≡ true = ap (λ (x : Head). isWritable (x .destination)) (h .is) ∙ formed-is-writable Destination frame 0 (h .destination) in
+    let s-good : isWritable s ≡ true = ap (λ (x : Head). isWritable (x .source)) (h .is) ∙ formed-is-writable Source frame 7 (h .source) in
+    (ap (take headLength) (sym same) ∙ put-part frame 0 (headBytes d s protocol) l, head-written frame d s protocol (and-both (isWritable d) (isWritable s) d-good s-good) l ∙ ap accepted same)

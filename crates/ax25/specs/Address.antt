@@ -37,8 +37,8 @@ unfoldable pub isName : Address → Bool
 isName a = padded (charactersOf a) && not (allSpaces (charactersOf a))
 
 -- an address that can be written: a name, and a number of four bits
-unfoldable pub goodAddress : Address → Bool
-goodAddress a = isName a && ltb (a .number) 16
+unfoldable pub isWritable : Address → Bool
+isWritable a = isName a && ltb (a .number) 16
 
 -- bit 0 of the SSID byte is 0 in the destination and 1 in the source
 abbrev pub lastBit : Role → ℕ
@@ -76,25 +76,28 @@ lowBitsClear s at =
 abbrev pub ssidRight : Role → ℕ → Bool
 ssidRight role b = eqb (b / 128) 0 && eqb (b / 32 % 4) 3 && eqb (b % 2) (lastBit role)
 
--- the seven bytes from a place on are an address
+-- the seven bytes from a place on are an address; where the list ends before the seventh, its SSID byte reads as 0 and is
+-- not right
 unfoldable pub wellFormed : Role → List ℕ → ℕ → Bool
 wellFormed role s at = lowBitsClear s at && ssidRight role (byteAt s (at + 6)) && isName (addressAt s at)
 
--- reading: 2
+-- the order in reading: 2
 abbrev pub addressReadChecks : Role → List ℕ → ℕ → List Check
 addressReadChecks role s at = check (not (wellFormed role s at)) 2 ∷ []
 
+-- reading the address from a place on: what the seven bytes spell
 unfoldable pub readAddress : Role → List ℕ → ℕ → Answer Address
 readAddress role s at = firstOf (addressReadChecks role s at) (addressAt s at)
 
--- writing into a list from a place on: 2, 12
+-- the order in writing: 2, 12
 abbrev pub addressWriteChecks : Role → List ℕ → ℕ → Address → List Check
-addressWriteChecks role out at a = check (not (goodAddress a)) 2 ∷ check (not (fits out at (addressBytes role a))) 12 ∷ []
+addressWriteChecks role out at a = check (not (isWritable a)) 2 ∷ check (not (fits out at (addressBytes role a))) 12 ∷ []
 
+-- writing an address into a list from a place on: the list with its seven bytes there
 unfoldable pub writeAddress : Role → List ℕ → ℕ → Address → Answer (List ℕ)
 writeAddress role out at a = firstOf (addressWriteChecks role out at a) (putIn out at (addressBytes role a))
 
--- the paper's number and values for each case of the answer
+-- the paper's number and values for each case of `read_address`'s answer
 abbrev pub addressAnswer : AddressRead → Answer Address
 addressAnswer (Accepted a) = accepted a
 addressAnswer (Refused n) = refused n

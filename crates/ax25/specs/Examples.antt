@@ -1,4 +1,4 @@
--- The two worked addresses of 01, "Frame".
+-- The two worked addresses of 01, "Frame", and addresses that break a rule.
 -- Assumes nothing.
 use mathlib.Core.List.{List, [], _∷_}
 use Prim.Native.Nat.{ℕ}
@@ -12,14 +12,22 @@ va3sfl = record { c0 = 0x56; c1 = 0x41; c2 = 0x33; c3 = 0x53; c4 = 0x46; c5 = 0x
 abbrev pub va3sflBytes : List ℕ
 va3sflBytes = 0xAC ∷ 0x82 ∷ 0x66 ∷ 0xA6 ∷ 0x8C ∷ 0x98 ∷ 0x60 ∷ []
 
--- UOSAT5-11
-abbrev pub uosat5 : Address
-uosat5 = record { c0 = 0x55; c1 = 0x4F; c2 = 0x53; c3 = 0x41; c4 = 0x54; c5 = 0x35; number = 11 }
+-- UOSAT5 with a number; the worked one is 11
+abbrev pub uosat5 : ℕ → Address
+uosat5 n = record { c0 = 0x55; c1 = 0x4F; c2 = 0x53; c3 = 0x41; c4 = 0x54; c5 = 0x35; number = n }
 
--- .. as source
-abbrev pub uosat5Bytes : List ℕ
-uosat5Bytes = 0xAA ∷ 0x9E ∷ 0xA6 ∷ 0x82 ∷ 0xA8 ∷ 0x6A ∷ 0x77 ∷ []
+-- .. with an SSID byte; of UOSAT5-11 as source it is 77
+abbrev pub uosat5Bytes : ℕ → List ℕ
+uosat5Bytes ssid = 0xAA ∷ 0x9E ∷ 0xA6 ∷ 0x82 ∷ 0xA8 ∷ 0x6A ∷ ssid ∷ []
 
--- the same bytes but for the SSID byte, 6C: the number 6 of a destination
-abbrev pub uosat5With6C : List ℕ
-uosat5With6C = 0xAA ∷ 0x9E ∷ 0xA6 ∷ 0x82 ∷ 0xA8 ∷ 0x6A ∷ 0x6C ∷ []
+-- uOSAT5-11 as source: the first character in lower case
+abbrev pub lowerBytes : List ℕ
+lowerBytes = 0xEA ∷ 0x9E ∷ 0xA6 ∷ 0x82 ∷ 0xA8 ∷ 0x6A ∷ 0x77 ∷ []
+
+-- six spaces and the number 0
+abbrev pub spaces : Address
+spaces = record { c0 = 0x20; c1 = 0x20; c2 = 0x20; c3 = 0x20; c4 = 0x20; c5 = 0x20; number = 0 }
+
+-- .. as destination
+abbrev pub spacesBytes : List ℕ
+spacesBytes = 0x40 ∷ 0x40 ∷ 0x40 ∷ 0x40 ∷ 0x40 ∷ 0x40 ∷ 0x60 ∷ []

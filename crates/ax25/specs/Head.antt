@@ -2,7 +2,7 @@
 -- Assumes nothing.
 use mathlib.Core.Bool.{not, _&&_}
 use mathlib.Core.List.{List, [], _∷_, _++_}
-use Prim.Native.Nat.{ℕ, _-_}
+use Prim.Native.Nat.{ℕ, _+_, _-_}
 use lib.Dec.{ltb, eqb}
 use lib.ListN.{length}
 use Rattle.reason.specs.Answer.{Answer, accepted, refused}
@@ -14,7 +14,7 @@ use Rattle.ax25.specs.declared.Role.the-variants.{Destination, Source}
 use Rattle.ax25.specs.declared.Head.{Head}
 use Rattle.ax25.specs.declared.HeadRead.{HeadRead}
 use Rattle.ax25.specs.declared.HeadRead.the-variants.{Accepted, Refused}
-use Rattle.ax25.specs.Address.{goodAddress, addressBytes, addressAt, wellFormed}
+use Rattle.ax25.specs.Address.{isWritable, addressBytes, addressAt, wellFormed}
 
 -- the bytes before the information: two addresses, control and protocol
 abbrev pub headLength : ℕ
@@ -23,6 +23,10 @@ headLength = 16
 -- the most bytes of information
 abbrev pub mostInformation : ℕ
 mostInformation = 255
+
+-- the most bytes of a frame
+abbrev pub longestFrame : ℕ
+longestFrame = headLength + mostInformation
 
 -- the control byte of every frame
 abbrev pub control : ℕ
@@ -38,10 +42,11 @@ headChecks protocol frame =
     ∷ check (ltb mostInformation (length frame - headLength)) 7
     ∷ []
 
--- both addresses
+-- what a head says: both addresses
 unfoldable pub headOf : List ℕ → Head
 headOf frame = record { destination = addressAt frame 0; source = addressAt frame 7 }
 
+-- reading the head of a frame whose protocol is the one named
 abbrev pub readHead : ℕ → List ℕ → Answer Head
 readHead protocol frame = firstOf (headChecks protocol frame) (headOf frame)
 
@@ -49,18 +54,19 @@ readHead protocol frame = firstOf (headChecks protocol frame) (headOf frame)
 unfoldable pub headBytes : Address → Address → ℕ → List ℕ
 headBytes destination source protocol = addressBytes Destination destination ++ addressBytes Source source ++ control ∷ protocol ∷ []
 
--- writing it into the first 16 bytes of a list: 2 (either address), 12
+-- the order in writing a head: 2 (either address), 12
 abbrev pub headWriteChecks : List ℕ → Address → Address → List Check
 headWriteChecks out destination source =
-    check (not (goodAddress destination && goodAddress source)) 2
+    check (not (isWritable destination && isWritable source)) 2
     ∷ check (ltb (length out) headLength) 12
     ∷ []
 
+-- writing a head into the first bytes of a list
 unfoldable pub writeHead : List ℕ → Address → Address → ℕ → Answer (List ℕ)
 writeHead out destination source protocol =
     firstOf (headWriteChecks out destination source) (putIn out 0 (headBytes destination source protocol))
 
--- the paper's number and values for each case of the answer
+-- the paper's number and values for each case of `read_head`'s answer
 abbrev pub headAnswer : HeadRead → Answer Head
 headAnswer (Accepted h) = accepted h
 headAnswer (Refused n) = refused n

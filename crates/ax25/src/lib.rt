@@ -1,15 +1,15 @@
 // AX.25 addresses and the head of a frame (01, "Frame"), read and written.
 //
 // Its contracts cite `specs/Address.antt` and `specs/Head.antt`, where the reasons stand in their
-// order. That what is written is read back, and what is accepted is what writing gives, is in
-// `proofs/RoundTrip.antt`; laws for callers are in `proofs/AddressLaws.antt` and
-// `proofs/HeadLaws.antt`.
+// order. That each reason is given exactly when it is first is in `proofs/InOrder.antt`; that what is
+// written is read back, and what is accepted is what writing gives, in `proofs/RoundTrip.antt`. Laws
+// for callers are in `proofs/AddressLaws.antt`, `proofs/HeadLaws.antt` and `proofs/WriteLaws.antt`.
 mod spelling;
 
 use reason::Outcome;
 ghost use mathlib.Core.Path.{_≡_};
 ghost use Rattle.reason.specs.Answer.{Wrote};
-ghost use Rattle.ax25.specs.Address.{goodAddress, addressAnswer, readAddress, writeAddress};
+ghost use Rattle.ax25.specs.Address.{isWritable, addressAnswer, readAddress, writeAddress};
 ghost use Rattle.ax25.specs.Head.{headAnswer, readHead, writeHead};
 
 // The bytes of a frame before its information, the most bytes of information, and the control byte.
@@ -30,7 +30,7 @@ pub struct Address {
     pub number: u8,
 }
 
-// Whom an address in a frame names: bit 0 of its SSID byte tells them apart.
+// Which of a frame's two addresses it is: bit 0 of the SSID byte tells them apart.
 pub enum Role {
     Destination,
     Source,
@@ -57,7 +57,7 @@ pub enum HeadRead {
 // Whether an address can be written: characters A–Z and 0–9, spaces after the last of them only, not
 // all spaces, and a number of at most 15.
 pub fn writable(a: Address) -> bool
-    ensures { λ r. ⌜ r ≡ goodAddress a ⌝ }
+    ensures { λ r. ⌜ r ≡ isWritable a ⌝ }
 {
     spelling::is_name(a) & (a.number < 16)
 }

@@ -6,7 +6,7 @@ ghost use mathlib.Core.Path.{_≡_};
 ghost use mathlib.Core.Bool.{true};
 ghost use Prim.Native.Nat.{_+_, _≤_};
 ghost use lib.ListN.{length};
-ghost use Rattle.ax25.specs.Address.{isCharacter, isName, goodAddress, lastBit, addressBytes, addressAnswer, readAddress};
+ghost use Rattle.ax25.specs.Address.{isCharacter, isName, isWritable, lastBit, addressBytes, addressAnswer, readAddress};
 
 // A–Z and 0–9.
 fn is_character(c: u8) -> bool
@@ -17,7 +17,7 @@ fn is_character(c: u8) -> bool
 
 // Whether an address's six characters are a name: padded at the end with spaces, not all spaces.
 // From the last character to the first, s4 says that c4 and all after it are spaces, and p4 that
-// they are characters with spaces after the last alone.
+// they are characters and then only spaces.
 pub(crate) fn is_name(a: Address) -> bool
     ensures { λ r. ⌜ r ≡ isName a ⌝ }
 {
@@ -84,7 +84,7 @@ pub(crate) fn read(s: &[u8], at: usize, role: Role) -> AddressRead
 
 // The seven bytes of an address that can be written.
 pub(crate) fn bytes_of(a: Address, role: Role) -> [u8; 7]
-    requires { ⌜ goodAddress a ≡ true ⌝ }
+    requires { ⌜ isWritable a ≡ true ⌝ }
     ensures { λ r. ⌜ r ≡ addressBytes role a ⌝ }
 {
     let last = last_bit(role);

@@ -1,4 +1,4 @@
--- A run of bytes written into a list at a place.
+-- A run of bytes written into a list at a place (01, "Frame", "Fill request" and "Record": what is written stands together).
 -- Assumes nothing.
 use mathlib.Core.Path.{_≡_}
 use mathlib.Core.Bool.{Bool, cond}

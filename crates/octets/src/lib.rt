@@ -12,14 +12,14 @@ ghost use Prim.Native.Nat.{_<_, _^_};
 ghost use Rattle.octets.specs.Numbers.{byteAt, numberAt, bytesOf};
 ghost use Rattle.octets.specs.Runs.{Put};
 
-// The byte of s at a place, 0 beyond its end.
+// The byte of s at a place, 0 beyond the end of s.
 pub fn byte(s: &[u8], at: usize) -> u8
     ensures { λ r. ⌜ r ≡ byteAt (now (s .entry)) at ⌝ }
 {
     if at < s.len() { s[at] } else { 0 }
 }
 
-// The number of two bytes of s from a place, of which those beyond its end are 0.
+// The number of the two bytes of s from a place on; bytes beyond the end of s count as 0.
 pub fn number2(s: &[u8], at: usize) -> u16
     ensures { λ r. ⌜ r ≡ numberAt 2 (now (s .entry)) at ⌝ }
 {
@@ -30,7 +30,8 @@ pub fn number2(s: &[u8], at: usize) -> u16
     (byte(s, at) as u16) + 256 * (byte(s, next) as u16)
 }
 
-// The number of three bytes of s from a place, of which those beyond its end are 0; it is below 2^24.
+// The number of the three bytes of s from a place on, below 2^24; bytes beyond the end of s count
+// as 0.
 pub fn number3(s: &[u8], at: usize) -> u32
     ensures { λ r. ⌜ r ≡ numberAt 3 (now (s .entry)) at ⌝ }
     ensures { λ r. ⌜ r < 2 ^ 24 ⌝ }
@@ -42,7 +43,7 @@ pub fn number3(s: &[u8], at: usize) -> u32
     (byte(s, at) as u32) + 256 * (number2(s, next) as u32)
 }
 
-// The number of four bytes of s from a place, of which those beyond its end are 0.
+// The number of the four bytes of s from a place on; bytes beyond the end of s count as 0.
 pub fn number4(s: &[u8], at: usize) -> u32
     ensures { λ r. ⌜ r ≡ numberAt 4 (now (s .entry)) at ⌝ }
 {

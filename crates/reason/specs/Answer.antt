@@ -11,7 +11,7 @@ pub data Answer (A : Type 0) : Type 0 where
   accepted : A → Answer A
   refused : ℕ → Answer A
 
--- what is told of the values: a part of them, or what follows from them
+-- the same answer with f of its values
 abbrev pub telling : {A B : Type 0} → (A → B) → Answer A → Answer B
 telling f (accepted a) = accepted (f a)
 telling f (refused n) = refused n

@@ -26,8 +26,8 @@ abbrev pub NoneHolds : List Check → Type 0
 NoneHolds [] = Unit
 NoneHolds (check holds n ∷ checks) = (holds ≡ false) × NoneHolds checks
 
--- Demand 1 for one operation, whatever its values are: it refuses with n exactly if n's check is the first that holds, and
--- accepts exactly if none holds, and then with that value.
+-- The order in demand 1, for one operation: it refuses with n exactly if n's check is the first that holds, and accepts
+-- exactly if none holds, and then with that value. (That a refusal changes no lent byte is `leaving`, of `Answer`.)
 pub record Exactly {A : Type 0} (checks : List Check) (value : A) (answer : Answer A) : Type 0 where
   pub refuses-if : (n : ℕ) → First n checks → answer ≡ refused n
   pub refuses-only-if : (n : ℕ) → answer ≡ refused n → First n checks

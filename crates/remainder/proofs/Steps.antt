@@ -37,7 +37,7 @@ low-step a low h =
     ap₂ (λ (x y : ℕ). bitXor x (bitXor y 0 * polynomial)) up out ∙ xor-swap (a * 2 % 2 ^ 16) (low * 2) (bitXor (a / 2 ^ 15) 0 * polynomial)
 
 -- n bits leave, and none enters
-unfoldable pub leave : ℕ → ℕ → ℕ
+unfoldable leave : ℕ → ℕ → ℕ
 leave zero c = c
 leave (suc n) c = leave n (withBit c 0)
 
@@ -85,7 +85,7 @@ unfolding without
 nothing-left b = omega arith
 
 -- a byte enters as a whole at the top, and eight bits leave
-pub byte-at-top : (c b : ℕ) → b < 256 → withBits c (bitsOf b) ≡ leave 8 (bitXor c (b * 256))
+byte-at-top : (c b : ℕ) → b < 256 → withBits c (bitsOf b) ≡ leave 8 (bitXor c (b * 256))
 byte-at-top c b h =
     ap (withBits c) (sym (byte-bits b h))
     ∙ sym (xor-zero-r (withBits c (topBits 8 (b * 256))))

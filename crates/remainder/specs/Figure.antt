@@ -1,4 +1,5 @@
--- Figure 3.2 of document 002, a directory broadcast: its first 97 bytes, which its two check bytes follow.
+-- Figure 3.2 of document 002 (01, "Both sides of the line"), a directory broadcast: its first 97 bytes, which its two check
+-- bytes follow.
 -- Assumes nothing.
 use mathlib.Core.List.{List, [], _∷_}
 use Prim.Native.Nat.{ℕ}

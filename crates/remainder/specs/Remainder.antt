@@ -9,7 +9,8 @@ abbrev pub polynomial : ℕ
 polynomial = 2 ^ 12 + 2 ^ 5 + 2 ^ 0
 
 -- One bit of the message. The 16 bits of the remainder move up by one; where the bit that leaves at the top (c / 2^15, 0 or
--- 1) and the message's bit differ, the polynomial is taken off.
+-- 1) and the message's bit differ, the polynomial is taken off. So a bit enters at the top, and what is left at the end is the
+-- remainder of the message with 16 zero bits behind it, where the check bytes go.
 unfoldable pub withBit : ℕ → ℕ → ℕ
 withBit c bit = bitXor (c * 2 % 2 ^ 16) (bitXor (c / 2 ^ 15) bit * polynomial)
 

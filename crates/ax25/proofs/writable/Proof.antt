@@ -1,6 +1,6 @@
 -- `ax25::writable` meets its contract, by what `is_name` ensures.
 -- Assumes nothing.
-use Rattle.ax25.specs.Address.{goodAddress}
+use Rattle.ax25.specs.Address.{isWritable}
 use borrow.Author.Needs.{needs}
 use Rattle.ax25.proofs.writable.Statement.{statement}
 use Rattle.ax25.proofs.writable.Tie as tie
@@ -9,7 +9,7 @@ is-name-requires : tie.Need-is-name-requires
 is-name-requires c κs = search needs
 
 returns : tie.Need-returns
-unfolding goodAddress
+unfolding isWritable
 returns c = simp (c .before .is-name .ensures)
 
 pub writable-spec : {M : Type 1} → statement M

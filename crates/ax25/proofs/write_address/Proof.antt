@@ -13,16 +13,16 @@ use Rattle.octets.specs.Runs.{Put}
 use Rattle.octets.proofs.RunLaws.{put-told}
 use Rattle.ax25.specs.declared.Address.{Address}
 use Rattle.ax25.specs.declared.Role.{Role}
-use Rattle.ax25.specs.Address.{goodAddress, addressBytes, writeAddress}
+use Rattle.ax25.specs.Address.{isWritable, addressBytes, writeAddress}
 use Rattle.ax25.proofs.WriteLaws.{address-2, address-12, address-written}
 use Rattle.ax25.proofs.write_address.Statement.{statement}
 use Rattle.ax25.proofs.write_address.Tie as tie
 
 module _ (role : Role) (out : List ℕ) (at : ℕ) (a : Address) where
-  malformed : goodAddress a ≡ false → Wrote out (writeAddress role out at a) (Refused 2) out
+  malformed : isWritable a ≡ false → Wrote out (writeAddress role out at a) (Refused 2) out
   malformed g = wrote-refused out (writeAddress role out at a) out 2 (address-2 role out at a g) refl
 
-  module _ (g : goodAddress a ≡ true) (run : List ℕ) (is : run ≡ addressBytes role a) (r : Bool) (left : List ℕ) (p : Put out at run r left) where
+  module _ (g : isWritable a ≡ true) (run : List ℕ) (is : run ≡ addressBytes role a) (r : Bool) (left : List ℕ) (p : Put out at run r left) where
     put-it : Put out at (addressBytes role a) r left
     put-it = rw is at p
 
@@ -40,7 +40,7 @@ returns c =
     let a = c .before .before .before .args in
     malformed (a .role) (a .out .now) (a .at) (a .a) (sym (c .before .writable .ensures) ∙ not-true _ (c .if1 .taken))
 
-goods : (c : tie.Else1) → goodAddress (c .before .before .before .args .a) ≡ true
+goods : (c : tie.Else1) → isWritable (c .before .before .before .args .a) ≡ true
 goods c = sym (c .before .writable .ensures) ∙ not-false _ (c .if1 .left)
 
 bytes-of-requires : tie.Need-bytes-of-requires

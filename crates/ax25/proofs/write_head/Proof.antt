@@ -16,17 +16,17 @@ use Rattle.octets.specs.Runs.{putIn, Put}
 use Rattle.octets.proofs.RunLaws.{put-fits, put-more}
 use Rattle.ax25.specs.declared.Address.{Address}
 use Rattle.ax25.specs.declared.Role.the-variants.{Destination, Source}
-use Rattle.ax25.specs.Address.{goodAddress, addressBytes}
+use Rattle.ax25.specs.Address.{isWritable, addressBytes}
 use Rattle.ax25.specs.Head.{control, headBytes, writeHead}
 use Rattle.ax25.proofs.WriteLaws.{head-2, head-12, head-written}
 use Rattle.ax25.proofs.write_head.Statement.{statement}
 use Rattle.ax25.proofs.write_head.Tie as tie
 
 module _ (out : List ℕ) (d s : Address) (protocol : ℕ) where
-  malformed : (goodAddress d && goodAddress s) ≡ false → Wrote out (writeHead out d s protocol) (Refused 2) out
+  malformed : (isWritable d && isWritable s) ≡ false → Wrote out (writeHead out d s protocol) (Refused 2) out
   malformed g = wrote-refused out (writeHead out d s protocol) out 2 (head-2 out d s protocol g) refl
 
-  module _ (good : (goodAddress d && goodAddress s) ≡ true) where
+  module _ (good : (isWritable d && isWritable s) ≡ true) where
     short : length out < 16 → Wrote out (writeHead out d s protocol) (Refused 12) out
     short l = wrote-refused out (writeHead out d s protocol) out 12 (head-12 out d s protocol good l) refl
 
@@ -41,7 +41,7 @@ module _ (out : List ℕ) (d s : Address) (protocol : ℕ) where
 
 -- both addresses can be written, of the arguments at entry
 abbrev Good : tie.Start → Bool
-Good c = goodAddress (c .args .destination) && goodAddress (c .args .source)
+Good c = isWritable (c .args .destination) && isWritable (c .args .source)
 
 both : (c : tie.After-writable2) → (c .before .writable .result && c .writable2 .result) ≡ Good (c .before .before .before)
 both c = ap₂ (λ (x y : Bool). x && y) (c .before .writable .ensures) (c .writable2 .ensures)
@@ -66,10 +66,10 @@ returns-2 c =
     short (a .out .now) (a .destination) (a .source) (a .protocol) (goods (c .before)) (c .if2 .taken)
 
 bytes-of-requires : tie.Need-bytes-of-requires
-bytes-of-requires c κs = let a = c .before .before .before .before .before .args in and-left (goodAddress (a .destination)) (goodAddress (a .source)) (goods (c .before))
+bytes-of-requires c κs = let a = c .before .before .before .before .before .args in and-left (isWritable (a .destination)) (isWritable (a .source)) (goods (c .before))
 
 bytes-of-requires-2 : tie.Need-bytes-of-requires-2
-bytes-of-requires-2 c κs = let a = c .before .before .before .before .before .before .args in and-right (goodAddress (a .destination)) (goodAddress (a .source)) (goods (c .before .before))
+bytes-of-requires-2 c κs = let a = c .before .before .before .before .before .before .args in and-right (isWritable (a .destination)) (isWritable (a .source)) (goods (c .before .before))
 
 slice-aggregate-put : tie.Need-slice-aggregate-put
 slice-aggregate-put c = search needs

@@ -2,7 +2,7 @@
 -- Assumes nothing.
 use Prim.Native.Nat.{_<_}
 use native.Mathlib.Omega.{arith}
-use Rattle.ax25.proofs.AddressLaws.{character-of-good, number-of-good, last-bit-below}
+use Rattle.ax25.proofs.AddressLaws.{character-of-writable, number-of-writable, last-bit-below}
 use borrow.Author.Needs.{needs}
 use Rattle.ax25.proofs.spelling.bytes_of.Statement.{statement}
 use Rattle.ax25.proofs.spelling.bytes_of.Tie as tie
@@ -11,29 +11,29 @@ last-bit-requires : tie.Need-last-bit-requires
 last-bit-requires c κs = search needs
 
 mul-t4 : tie.Need-mul-t4
-mul-t4 c = omega (arith, character-of-good (c .before .before .args .a) (c .before .before .pre) 0)
+mul-t4 c = omega (arith, character-of-writable (c .before .before .args .a) (c .before .before .pre) 0)
 
 mul-t5 : tie.Need-mul-t5
-mul-t5 c = omega (arith, character-of-good (c .before .before .before .args .a) (c .before .before .before .pre) 1)
+mul-t5 c = omega (arith, character-of-writable (c .before .before .before .args .a) (c .before .before .before .pre) 1)
 
 mul-t6 : tie.Need-mul-t6
-mul-t6 c = omega (arith, character-of-good (c .before .before .before .before .args .a) (c .before .before .before .before .pre) 2)
+mul-t6 c = omega (arith, character-of-writable (c .before .before .before .before .args .a) (c .before .before .before .before .pre) 2)
 
 mul-t7 : tie.Need-mul-t7
-mul-t7 c = omega (arith, character-of-good (c .before .before .before .before .before .args .a) (c .before .before .before .before .before .pre) 3)
+mul-t7 c = omega (arith, character-of-writable (c .before .before .before .before .before .args .a) (c .before .before .before .before .before .pre) 3)
 
 mul-t8 : tie.Need-mul-t8
-mul-t8 c = omega (arith, character-of-good (c .before .before .before .before .before .before .args .a) (c .before .before .before .before .before .before .pre) 4)
+mul-t8 c = omega (arith, character-of-writable (c .before .before .before .before .before .before .args .a) (c .before .before .before .before .before .before .pre) 4)
 
 mul-t9 : tie.Need-mul-t9
-mul-t9 c = omega (arith, character-of-good (c .before .before .before .before .before .before .before .args .a) (c .before .before .before .before .before .before .before .pre) 5)
+mul-t9 c = omega (arith, character-of-writable (c .before .before .before .before .before .before .before .args .a) (c .before .before .before .before .before .before .before .pre) 5)
 
 -- at entry, and what is known there of the number and the last bit
 abbrev S : tie.After-struct-known7 → tie.Start
 S c = c .before .before .before .before .before .before .before .before
 
 number : (c : tie.After-struct-known7) → S c .args .a .number < 16
-number c = number-of-good (S c .args .a) (S c .pre)
+number c = number-of-writable (S c .args .a) (S c .pre)
 
 last : (c : tie.After-struct-known7) → c .before .before .before .before .before .before .before .last-bit .result < 2
 last c = omega (arith, c .before .before .before .before .before .before .before .last-bit .ensures, last-bit-below (S c .args .role))
