@@ -1,4 +1,4 @@
-pub mod AddressLaws
+pub mod SpellingLaws
 pub mod HeadLaws
 pub mod WriteLaws
 pub mod InOrder

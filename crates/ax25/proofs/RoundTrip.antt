@@ -20,7 +20,7 @@ use Rattle.ax25.specs.declared.Role.the-variants.{Destination, Source}
 use Rattle.ax25.specs.declared.Head.{Head}
 use Rattle.ax25.specs.Address.{isWritable, addressBytes, addressAt, wellFormed, readAddress, writeAddress}
 use Rattle.ax25.specs.Head.{headLength, mostInformation, longestFrame, control, headOf, headBytes, readHead, writeHead}
-use Rattle.ax25.proofs.AddressLaws.{bytes-spell, bytes-are-formed, formed-is-writable, formed-in-list, formed-bytes, address-accepted, accepted-address}
+use Rattle.ax25.proofs.SpellingLaws.{bytes-spell, bytes-are-formed, formed-is-writable, formed-in-list, formed-bytes, address-accepted, accepted-address}
 use Rattle.ax25.proofs.HeadLaws.{reads-head, head-says}
 use Rattle.ax25.proofs.WriteLaws.{address-written, written-address, head-written, written-head, three-runs}
 

@@ -3,7 +3,7 @@
 // Its contracts cite `specs/Address.antt` and `specs/Head.antt`, where the reasons stand in their
 // order. That each reason is given exactly when it is first is in `proofs/InOrder.antt`; that what is
 // written is read back, and what is accepted is what writing gives, in `proofs/RoundTrip.antt`. Laws
-// for callers are in `proofs/AddressLaws.antt`, `proofs/HeadLaws.antt` and `proofs/WriteLaws.antt`.
+// for callers are in `proofs/SpellingLaws.antt`, `proofs/HeadLaws.antt` and `proofs/WriteLaws.antt`.
 mod spelling;
 
 use reason::Outcome;

@@ -1,3 +1,4 @@
 pub mod RunLaws
 pub mod NumberLaws
 pub mod OnlyOne
+pub mod Cases

@@ -1,5 +1,5 @@
 -- `addresses::characters` is safe and ends: six turns.
--- Assumes nothing.
+-- Assumes what the contract of C's `write` says, as every program does that prints.
 use Prim.Native.Nat.{_≤_, _-_}
 use borrow.Author.Needs.{needs}
 use Rattle.addresses.proofs.characters.Statement.{statement}

@@ -1,5 +1,5 @@
 -- `addresses::values` is safe and ends: a turn for each byte value.
--- Assumes nothing.
+-- Assumes what the contract of C's `write` says, as every program does that prints.
 use Prim.Native.Nat.{_≤_, _-_}
 use borrow.Author.Needs.{needs}
 use Rattle.addresses.proofs.values.Statement.{statement}

@@ -9,7 +9,7 @@ use borrow.Author.Needs.{needs}
 use Rattle.reason.specs.Answer.{refused}
 use Rattle.ax25.specs.declared.Role.{Role}
 use Rattle.ax25.specs.Address.{readAddress}
-use Rattle.ax25.proofs.AddressLaws.{cut-short, address-refused}
+use Rattle.ax25.proofs.SpellingLaws.{cut-short, address-refused}
 use Rattle.ax25.proofs.read_address.Statement.{statement}
 use Rattle.ax25.proofs.read_address.Tie as tie
 

@@ -14,7 +14,7 @@ use Rattle.ax25.specs.declared.Role.the-variants.{Destination, Source}
 use Rattle.ax25.specs.declared.Head.{Head}
 use Rattle.ax25.specs.Address.{addressAt, wellFormed, addressAnswer}
 use Rattle.ax25.specs.Head.{headOf}
-use Rattle.ax25.proofs.AddressLaws.{accepted-address, refused-address}
+use Rattle.ax25.proofs.SpellingLaws.{accepted-address, refused-address}
 use Rattle.ax25.proofs.HeadLaws.{reads-1, reads-2, reads-3, reads-4, reads-7, reads-head}
 use Rattle.ax25.proofs.read_head.Statement.{statement}
 use Rattle.ax25.proofs.read_head.Tie as tie

@@ -2,7 +2,7 @@
 -- Assumes nothing.
 use Prim.Native.Nat.{_<_}
 use native.Mathlib.Omega.{arith}
-use Rattle.ax25.proofs.AddressLaws.{character-of-writable, number-of-writable, last-bit-below}
+use Rattle.ax25.proofs.SpellingLaws.{character-of-writable, number-of-writable, last-bit-below}
 use borrow.Author.Needs.{needs}
 use Rattle.ax25.proofs.spelling.bytes_of.Statement.{statement}
 use Rattle.ax25.proofs.spelling.bytes_of.Tie as tie

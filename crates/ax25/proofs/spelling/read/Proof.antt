@@ -8,7 +8,7 @@ use lib.Dec.{eqb}
 use Rattle.octets.specs.Numbers.{byteAt}
 use Rattle.ax25.specs.declared.Role.{Role}
 use Rattle.ax25.specs.Address.{isName, lastBit, addressAt, lowBitsClear, wellFormed}
-use Rattle.ax25.proofs.AddressLaws.{address-accepted, address-refused}
+use Rattle.ax25.proofs.SpellingLaws.{address-accepted, address-refused}
 use borrow.Author.Needs.{needs}
 use Rattle.ax25.proofs.spelling.read.Statement.{statement}
 use Rattle.ax25.proofs.spelling.read.Tie as tie

@@ -1,5 +1,5 @@
--- Laws of addresses: what an address that can be written says of its characters, and what seven bytes that are an address
--- say of each byte.
+-- Laws of how an address is spelled: what an address that can be written says of its characters, and what seven bytes that are
+-- an address say of each byte.
 -- Assumes nothing.
 use mathlib.Core.Path.{_≡_, refl, sym, ap, _∙_}
 use mathlib.Core.Bool.{Bool, true, false, not, _&&_, and-false, true≢false}
