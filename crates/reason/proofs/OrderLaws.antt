@@ -65,12 +65,17 @@ first-then [] ds a b = refl
 first-then (check true m ∷ cs) ds a b = refl
 first-then (check false m ∷ cs) ds a b = first-then cs ds a b
 
+-- .. where the first list's answer is known: one law, and its two cases
+first-then-by : {A B : Type 0} (cs ds : List Check) (a : A) (b : B) (x : Answer A) → firstOf cs a ≡ x
+    → firstOf (cs ++ ds) b ≡ andThen x (firstOf ds b)
+first-then-by cs ds a b x e = first-then cs ds a b ∙ ap (λ (y : Answer _). andThen y (firstOf ds b)) e
+
 pub refused-then : {A B : Type 0} (cs ds : List Check) (a : A) (b : B) (n : ℕ) → firstOf cs a ≡ refused n → firstOf (cs ++ ds) b ≡ refused n
-refused-then cs ds a b n e = first-then cs ds a b ∙ ap (λ (x : Answer _). andThen x (firstOf ds b)) e
+refused-then cs ds a b n e = first-then-by cs ds a b (refused n) e
 
 pub accepted-then : {A B : Type 0} (cs ds : List Check) (a a′ : A) (b : B) → firstOf cs a ≡ accepted a′
     → firstOf (cs ++ ds) b ≡ firstOf ds b
-accepted-then cs ds a a′ b e = first-then cs ds a b ∙ ap (λ (x : Answer _). andThen x (firstOf ds b)) e
+accepted-then cs ds a a′ b e = first-then-by cs ds a b (accepted a′) e
 
 -- one check at a time: it does not hold, and the rest decides; it holds, and its number is the answer; none is left
 pub skip : {A : Type 0} {holds : Bool} (n : ℕ) (cs : List Check) (a : A) → holds ≡ false → firstOf (check holds n ∷ cs) a ≡ firstOf cs a

@@ -5,15 +5,20 @@ use mathlib.Core.List.{List}
 use Prim.Native.Nat.{ℕ}
 use Rattle.reason.specs.declared.Outcome.{Outcome}
 use Rattle.reason.specs.declared.Outcome.the-variants.{Accepted, Refused}
-use Rattle.reason.specs.Answer.{Answer, accepted, refused, telling, leaving, Wrote}
+use Rattle.reason.specs.Answer.{Answer, accepted, refused, telling, leaving, outcome, Wrote}
 use Rattle.reason.proofs.OnlyOne.{only-one-written}
 
 module _ (lent : List ℕ) (made : Answer (List ℕ)) (left : List ℕ) where
+  -- the promise, where what the operation makes is known: one law, and its two cases
+  wrote-by : (a : Answer (List ℕ)) (r : Outcome) → made ≡ a → outcome r ≡ telling (λ (x : List ℕ). tt) a → left ≡ leaving (λ (x : List ℕ). x) lent a
+      → Wrote lent made r left
+  wrote-by a r e o l = record { answer = o ∙ sym (ap (telling (λ (x : List ℕ). tt)) e); bytes = l ∙ sym (ap (leaving (λ (x : List ℕ). x) lent) e) }
+
   pub wrote-refused : (n : ℕ) → made ≡ refused n → left ≡ lent → Wrote lent made (Refused n) left
-  wrote-refused n e l = record { answer = sym (ap (telling (λ (x : List ℕ). tt)) e); bytes = l ∙ sym (ap (leaving (λ (x : List ℕ). x) lent) e) }
+  wrote-refused n e l = wrote-by (refused n) (Refused n) e refl l
 
   pub wrote-accepted : (new : List ℕ) → made ≡ accepted new → left ≡ new → Wrote lent made Accepted left
-  wrote-accepted new e l = record { answer = sym (ap (telling (λ (x : List ℕ). tt)) e); bytes = l ∙ sym (ap (leaving (λ (x : List ℕ). x) lent) e) }
+  wrote-accepted new e l = wrote-by (accepted new) Accepted e refl l
 
 -- what is written and told where the operation is known to accept, and where it is known to refuse
 pub when-accepted : (lent : List ℕ) (made : Answer (List ℕ)) (r : Outcome) (left new : List ℕ) → Wrote lent made r left
