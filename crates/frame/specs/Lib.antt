@@ -1,0 +1,4 @@
+pub mod Information
+pub mod Piece
+pub mod Entry
+pub mod Figure

@@ -1,0 +1,73 @@
+// The information of a directory entry.
+use super::Entry;
+use super::EntryRead;
+use ax25::Head;
+use header::HeaderRead;
+ghost use mathlib.Core.Path.{_≡_};
+ghost use lib.ListN.{drop};
+ghost use Rattle.reason.specs.Order.{firstOf};
+ghost use Rattle.frame.specs.Entry.{flagsAllowed, headerWhole, entryChecks, entryFields, entryAnswer, headerPart};
+
+// Reads the information of a frame with the head; refuses 1, 6, 5, 14, 8.
+pub(crate) fn read(s: &[u8], head: Head) -> EntryRead
+    ensures { λ r. ⌜ entryAnswer r ≡ firstOf (entryChecks (now (s .entry))) (entryFields head (now (s .entry))) ⌝ }
+{
+    if s.len() < 19 {
+        return EntryRead::Refused(1);
+    }
+    if !remainder::check_right(s) {
+        return EntryRead::Refused(6);
+    }
+    let flags = s[0];
+    if !allowed(flags) {
+        return EntryRead::Refused(5);
+    }
+    let offset = octets::number4(s, 5);
+    if !whole(flags, offset) {
+        return EntryRead::Refused(14);
+    }
+    let number = octets::number4(s, 1);
+    let old = octets::number4(s, 9);
+    let new = octets::number4(s, 13);
+    let end = s.len() - 2;
+    let HeaderRead::Accepted(header) = header::read_header(&s[17..end], number) else {
+        return EntryRead::Refused(8);
+    };
+    if header.bytes != end - 17 {
+        return EntryRead::Refused(8);
+    }
+    EntryRead::Accepted(Entry {
+        head,
+        flags,
+        number,
+        offset,
+        old,
+        new,
+        header,
+    })
+}
+
+// The bytes of a frame between time new and the two check bytes.
+pub(crate) fn between(frame: &[u8]) -> &[u8]
+    ensures { λ r. ⌜ now r ≡ headerPart (drop 16 (now (frame .entry))) ⌝ }
+{
+    if frame.len() < 35 {
+        return &frame[0..0];
+    }
+    let end = frame.len() - 2;
+    &frame[33..end]
+}
+
+// Whether no bit is set but bits 5 and 6, which are free.
+fn allowed(flags: u8) -> bool
+    ensures { λ r. ⌜ r ≡ flagsAllowed flags ⌝ }
+{
+    (flags % 32 == 0) & (flags / 128 == 0)
+}
+
+// Whether bit 5 is set and the offset 0: the header is whole.
+fn whole(flags: u8, offset: u32) -> bool
+    ensures { λ r. ⌜ r ≡ headerWhole flags offset ⌝ }
+{
+    (flags / 32 % 2 == 1) & (offset == 0)
+}

@@ -1,0 +1,45 @@
+// The information of a file piece.
+use super::Piece;
+use super::PieceRead;
+use ax25::Head;
+ghost use mathlib.Core.Path.{_≡_};
+ghost use Rattle.reason.specs.Order.{firstOf};
+ghost use Rattle.frame.specs.Piece.{pieceChecks, pieceFields, pieceAnswer, pieceData};
+
+// Reads the information of a frame with the head; refuses 1, 6, 5, 7.
+pub(crate) fn read(s: &[u8], head: Head) -> PieceRead
+    ensures { λ r. ⌜ pieceAnswer r ≡ firstOf (pieceChecks (now (s .entry))) (pieceFields head (now (s .entry))) ⌝ }
+{
+    if s.len() < 11 {
+        return PieceRead::Refused(1);
+    }
+    if !remainder::check_right(s) {
+        return PieceRead::Refused(6);
+    }
+    if s[0] != 0x02 {
+        return PieceRead::Refused(5);
+    }
+    if s.len() == 11 {
+        return PieceRead::Refused(7);
+    }
+    let number = octets::number4(s, 1);
+    let kind = s[5];
+    let offset = octets::number3(s, 6);
+    PieceRead::Accepted(Piece {
+        head,
+        number,
+        kind,
+        offset,
+    })
+}
+
+// The bytes of a frame between the nine header bytes and the two check bytes.
+pub(crate) fn between(frame: &[u8]) -> &[u8]
+    ensures { λ r. ⌜ now r ≡ pieceData (now (frame .entry)) ⌝ }
+{
+    if frame.len() < 27 {
+        return &frame[0..0];
+    }
+    let end = frame.len() - 2;
+    &frame[25..end]
+}

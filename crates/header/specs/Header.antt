@@ -1,0 +1,118 @@
+-- When a file header is accepted, and the values that it then gives (01, "File header").
+-- Assumes nothing.
+use mathlib.Core.Bool.{Bool, true, not, cond, _&&_}
+use mathlib.Core.List.{List, [], _∷_}
+use Prim.Native.Nat.{ℕ, _+_, _%_}
+use lib.Dec.{leb, eqb}
+use lib.ListN.{take}
+use Rattle.reason.specs.Answer.{Answer, accepted, refused}
+use Rattle.reason.specs.Order.{Check, check, firstOf}
+use Rattle.octets.specs.Numbers.{byteAt, numberAt}
+use Rattle.octets.specs.Runs.{putIn}
+use Rattle.header.specs.declared.Pair.{Pair}
+use Rattle.header.specs.declared.Name.{Name}
+use Rattle.header.specs.declared.Extension.{Extension}
+use Rattle.header.specs.declared.Upload.{Upload}
+use Rattle.header.specs.declared.Upload.the-variants.{At, Absent}
+use Rattle.header.specs.declared.Header.{Header}
+use Rattle.header.specs.declared.HeaderRead.{HeaderRead}
+use Rattle.header.specs.declared.HeaderRead.the-variants.{Accepted, Refused}
+use Rattle.header.specs.Items.{Known, known, mandatoryItems, Items, items, countOf, startOf, sizeOf, endOf}
+
+-- the first two bytes are AA 55
+abbrev pub beginsRight : List ℕ → Bool
+beginsRight s = eqb (byteAt s 0) 0xAA && eqb (byteAt s 1) 0x55
+
+-- the header's length, from AA 55 to the end item, and 0 if its items break off
+abbrev pub headerLength : List ℕ → ℕ
+headerLength s = endOf (items s)
+
+-- the table of mandatory items: id and length
+abbrev pub pairsOf : List Known → List Pair
+pairsOf [] = []
+pairsOf (known id size meaning ∷ rest) = record { id = id; size = size } ∷ pairsOf rest
+
+abbrev pub mandatory : List Pair
+mandatory = pairsOf mandatoryItems
+
+-- each pair's item is there exactly once, with its length
+abbrev pub allOnce : List Pair → Items → Bool
+allOnce [] is = true
+allOnce (p ∷ rest) is = eqb (countOf (p .id) is) 1 && eqb (sizeOf (p .id) is) (p .size) && allOnce rest is
+
+-- the value of the item with the id, a number of n bytes
+abbrev pub valueOf : ℕ → ℕ → List ℕ → ℕ
+valueOf id n s = numberAt n s (startOf id (items s))
+
+-- the sum of bytes
+abbrev pub sumOf : List ℕ → ℕ
+sumOf [] = 0
+sumOf (b ∷ s) = b + sumOf s
+
+-- the sum of all header bytes modulo 65,536, with item 0A's own two data bytes taken as 0
+unfoldable pub headerSum : List ℕ → ℕ
+headerSum s = sumOf (putIn (take (headerLength s) s) (startOf 0x0A (items s)) (0 ∷ 0 ∷ [])) % 65536
+
+-- item 0A is the sum, item 01 the file's number, and item 0B at least the header's length and at most item 04
+abbrev pub valuesAgree : Header → ℕ → ℕ → Bool
+valuesAgree h sum number = eqb (h .headersum) sum && eqb (h .number) number && leb (h .bytes) (h .body) && leb (h .body) (h .size)
+
+-- the bytes of items 02 and 03 in their order
+abbrev pub nameAt : List ℕ → ℕ → Name
+nameAt s at = record {
+  c0 = byteAt s at;
+  c1 = byteAt s (at + 1);
+  c2 = byteAt s (at + 2);
+  c3 = byteAt s (at + 3);
+  c4 = byteAt s (at + 4);
+  c5 = byteAt s (at + 5);
+  c6 = byteAt s (at + 6);
+  c7 = byteAt s (at + 7);
+}
+
+abbrev pub extensionAt : List ℕ → ℕ → Extension
+extensionAt s at = record { c0 = byteAt s at; c1 = byteAt s (at + 1); c2 = byteAt s (at + 2) }
+
+-- item 12 where it is present
+abbrev pub uploadOf : List ℕ → Upload
+uploadOf s = cond (eqb (countOf 0x12 (items s)) 0) Absent (At (valueOf 0x12 4 s))
+
+-- the values of all items, and the header's length
+unfoldable pub headerOf : List ℕ → Header
+headerOf s = record {
+  number = valueOf 0x01 4 s;
+  name = nameAt s (startOf 0x02 (items s));
+  extension = extensionAt s (startOf 0x03 (items s));
+  size = valueOf 0x04 4 s;
+  created = valueOf 0x05 4 s;
+  modified = valueOf 0x06 4 s;
+  upset = byteAt s (startOf 0x07 (items s));
+  kind = byteAt s (startOf 0x08 (items s));
+  bodysum = valueOf 0x09 2 s;
+  headersum = valueOf 0x0A 2 s;
+  body = valueOf 0x0B 2 s;
+  upload = uploadOf s;
+  bytes = headerLength s;
+}
+
+-- the header keeps every rule: `Rules` says them one by one
+unfoldable pub keepsRules : List ℕ → ℕ → Bool
+keepsRules s number =
+    beginsRight s
+    && leb 1 (headerLength s)
+    && allOnce mandatory (items s)
+    && leb (countOf 0x12 (items s)) 1
+    && valuesAgree (headerOf s) (headerSum s) number
+
+-- the order in reading a header: 8
+abbrev pub headerChecks : List ℕ → ℕ → List Check
+headerChecks s number = check (not (keepsRules s number)) 8 ∷ []
+
+-- reading the header that s starts with, of the file with the number
+unfoldable pub readHeader : List ℕ → ℕ → Answer Header
+readHeader s number = firstOf (headerChecks s number) (headerOf s)
+
+-- the paper's number and values for each case of `read_header`'s answer
+abbrev pub headerAnswer : HeaderRead → Answer Header
+headerAnswer (Accepted h) = accepted h
+headerAnswer (Refused n) = refused n

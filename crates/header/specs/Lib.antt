@@ -1,0 +1,5 @@
+pub mod Items
+pub mod Header
+pub mod Data
+pub mod Rules
+pub mod Notes

@@ -1,0 +1,80 @@
+// What one walk over a header's items notes of each id below 13 (hexadecimal): how many items have it,
+// and the length and the start of the last one's data.
+use super::Cursor;
+use super::Item;
+use super::Pair;
+use super::Step;
+ghost use mathlib.Core.Path.{_≡_};
+ghost use mathlib.Core.Bool.{_&&_};
+ghost use Prim.Native.Nat.{_+_, _<_};
+ghost use lib.Dec.{leb};
+ghost use lib.ListN.{getD};
+ghost use Rattle.header.specs.Header.{mandatory};
+ghost use Rattle.header.specs.Notes.{Noted, onceNoted, withMark, none};
+
+// The mandatory items: id and length.
+const MANDATORY: [Pair; 11] = [
+    Pair { id: 0x01, size: 4 },
+    Pair { id: 0x02, size: 8 },
+    Pair { id: 0x03, size: 3 },
+    Pair { id: 0x04, size: 4 },
+    Pair { id: 0x05, size: 4 },
+    Pair { id: 0x06, size: 4 },
+    Pair { id: 0x07, size: 1 },
+    Pair { id: 0x08, size: 1 },
+    Pair { id: 0x09, size: 2 },
+    Pair { id: 0x0A, size: 2 },
+    Pair { id: 0x0B, size: 2 },
+];
+
+// Walks over all items of the header, notes each, and answers the header's length, or 0 where the
+// items break off.
+pub(crate) fn walk(s: &[u8], counts: &mut [usize; 19], sizes: &mut [usize; 19], starts: &mut [usize; 19]) -> usize
+    requires { ⌜ (now counts ≡ none) × (now sizes ≡ none) × (now starts ≡ none) ⌝ }
+    ensures { λ r. ⌜ Noted (now (s .entry)) r (now (counts .exit)) (now (sizes .exit)) (now (starts .exit)) ⌝ }
+{
+    let mut cursor = Cursor::first();
+    loop {
+        match cursor.step(s) {
+            Step::Found(item, next) => {
+                note(counts, sizes, starts, item);
+                cursor = next;
+            }
+            Step::Ended(end) => return end.at,
+            Step::Broken => return 0,
+        }
+    }
+}
+
+// Notes one item more.
+fn note(counts: &mut [usize; 19], sizes: &mut [usize; 19], starts: &mut [usize; 19], item: Item)
+    requires { ⌜ getD (now counts) (item .id) 0 < item .start ⌝ }
+    ensures { λ r. ⌜ now (counts .exit) ≡ withMark (now (counts .entry)) (item .id) (getD (now (counts .entry)) (item .id) 0 + 1) ⌝ }
+    ensures { λ r. ⌜ now (sizes .exit) ≡ withMark (now (sizes .entry)) (item .id) (item .size) ⌝ }
+    ensures { λ r. ⌜ now (starts .exit) ≡ withMark (now (starts .entry)) (item .id) (item .start) ⌝ }
+{
+    let id = item.id as usize;
+    if id < 19 {
+        counts[id] += 1;
+        sizes[id] = item.size;
+        starts[id] = item.start;
+    }
+}
+
+// Whether each mandatory item was met exactly once, with its length, and item 12 at most once.
+pub(crate) fn complete(counts: &[usize; 19], sizes: &[usize; 19]) -> bool
+    ensures { λ r. ⌜ r ≡ onceNoted mandatory (now (counts .entry)) (now (sizes .entry)) && leb (getD (now (counts .entry)) 0x12 0) 1 ⌝ }
+{
+    let table = MANDATORY;
+    for k in 0..11 {
+        let pair = table[k];
+        let id = pair.id as usize;
+        if counts[id] != 1 {
+            return false;
+        }
+        if sizes[id] != pair.size {
+            return false;
+        }
+    }
+    counts[0x12] <= 1
+}
