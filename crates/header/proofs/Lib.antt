@@ -1,2 +1,4 @@
 pub mod ItemLaws
+pub mod TableLaws
 pub mod NoteLaws
+pub mod HeaderLaws

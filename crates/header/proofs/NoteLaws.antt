@@ -2,24 +2,26 @@
 -- Assumes nothing.
 use mathlib.Core.Path.{_≡_, refl, sym, ap, ap₂, _∙_}
 use mathlib.Core.Bool.{Bool, true, false, cond, _&&_}
-use mathlib.Core.List.{List, [], _∷_, List·Memᴰ, List·Memᴰ·head, List·Memᴰ·tail}
+use mathlib.Core.List.{List, [], _∷_, List·Memᴰ, List·Memᴰ·head, List·Memᴰ·tail, List·Memᴰ·not-nil, List·Memᴰ·cases-cons}
 use mathlib.Core.Logic.{⊎-elim}
-use Prim.Native.Nat.{ℕ, zero, suc, _+_, _≤_, _<_}
+use Prim.Native.Nat.{ℕ, zero, suc, _+_, _%_, _≤_, _<_}
 use native.Mathlib.Nat.{zero-add, add-zero}
 use native.Mathlib.Omega.{arith}
 use lib.Dec.{ltb, eqb}
-use lib.ListN.{length, getD, set, replicate, length-set, List·getD-eq-default}
+use lib.ListN.{length, getD, take, set, replicate, length-set, List·getD-eq-default}
 use lib.Seq.{getD-set-same, getD-set-other}
-use borrow.Author.Tests.{lt-ltb, le-ltb, eqb-true, eqb-false}
-use Rattle.reason.proofs.Bools.{le-or-lt}
+use borrow.Author.Tests.{lt-ltb, ltb-true, eqb-true, eqb-false}
+use Rattle.reason.proofs.Bools.{and-left, and-right, le-or-lt}
+use Rattle.octets.specs.Runs.{putIn}
 use Rattle.header.specs.declared.Item.{Item}
 use Rattle.header.specs.declared.Cursor.{Cursor}
 use Rattle.header.specs.declared.Pair.{Pair}
 use Rattle.header.specs.declared.Step.{Step}
 use Rattle.header.specs.declared.Step.the-variants.{Found, Ended, Broken}
 use Rattle.header.specs.Items.{stepAt, Items, item, itemsFrom, items, countOf, lastOf, startOf, sizeOf, endOf}
-use Rattle.header.specs.Header.{headerLength, allOnce}
-use Rattle.header.specs.Notes.{none, withMark, Noted, onceNoted}
+use Rattle.header.specs.Header.{headerLength, mandatory, every, once, sumOf, headerSum, headerOf}
+use Rattle.header.specs.Notes.{none, withMark, Noted, onceNoted, valuesNoted}
+use Rattle.header.proofs.TableLaws.{below, each, every-same, sum-listed}
 use Rattle.header.proofs.ItemLaws.{Next, items-by, found-by-told, ended-by-told}
 
 -- a list of notes after one is changed: its length, and what stands at each id
@@ -163,11 +165,30 @@ module _ (s : List ℕ) (at : ℕ) (counts sizes starts : List ℕ) (sofar : SoF
   pub at-break : (r : Step) → r ≡ Broken → r ≡ stepAt s at → Noted s 0 counts sizes starts
   at-break r told stepped = stopped _ 0 (items-by s at told stepped) refl (λ k. refl) (λ f d k. refl) (λ z. absurd (omega arith)) (omega arith)
 
--- what the table's scan found by the notes is what it would find in the items
-pub once-by : (s : List ℕ) (end : ℕ) (counts sizes starts : List ℕ) → Noted s end counts sizes starts → (ps : List Pair)
-    → ((p : Pair) → List·Memᴰ p ps → p .id < 19) → onceNoted ps counts sizes ≡ allOnce ps (items s)
-once-by s end counts sizes starts n [] below = refl
-once-by s end counts sizes starts n (p ∷ ps) below =
-    let h = below p (List·Memᴰ·head refl) in
-    ap₂ _&&_ (ap₂ _&&_ (ap (λ (m : ℕ). eqb m 1) (n .counted (p .id) h)) (ap (λ (m : ℕ). eqb m (p .size)) (n .sized (p .id) h)))
-    (once-by s end counts sizes starts n ps (λ q m. below q (List·Memᴰ·tail m)))
+-- the notes of all items say what the definitions say
+module _ (s : List ℕ) (end : ℕ) (counts sizes starts : List ℕ) (noted : Noted s end counts sizes starts) where
+  pub once-by-notes : every (onceNoted counts sizes) mandatory ≡ every (once (items s)) mandatory
+  once-by-notes =
+      every-same (onceNoted counts sizes) (once (items s)) mandatory
+      (λ p m. ap₂ (λ (x y : ℕ). eqb x 1 && eqb y (p .size)) (noted .counted (p .id) (below p m)) (noted .sized (p .id) (below p m)))
+
+  pub values-by-notes : valuesNoted s end counts starts ≡ headerOf s
+  unfolding headerOf
+  values-by-notes =
+      rw (noted .ends, noted .counted 0x12 (omega arith), noted .started 0x01 (omega arith), noted .started 0x02 (omega arith), noted .started 0x03 (omega arith),
+      noted .started 0x04 (omega arith), noted .started 0x05 (omega arith), noted .started 0x06 (omega arith), noted .started 0x07 (omega arith),
+      noted .started 0x08 (omega arith), noted .started 0x09 (omega arith), noted .started 0x0A (omega arith), noted .started 0x0B (omega arith),
+      noted .started 0x12 (omega arith))
+
+  pub sum-by-notes : sumOf (putIn (take end s) (getD starts 0x0A 0) (0 ∷ 0 ∷ [])) % 65536 ≡ headerSum s
+  unfolding headerSum
+  sum-by-notes = ap₂ (λ (e a : ℕ). sumOf (putIn (take e s) a (0 ∷ 0 ∷ [])) % 65536) (noted .ends) (noted .started 0x0A (omega arith))
+
+  -- where no item breaks off, every item that was met is in the header, and item 0A has two bytes
+  pub in-header : 0 < end → (id : ℕ) → id < 19 → getD starts id 0 ≤ length s
+  in-header h id b = omega (arith, noted .within h id b, noted .inside)
+
+  pub sum-in-header : 0 < end → every (onceNoted counts sizes) mandatory ≡ true → getD starts 0x0A 0 + 2 ≤ end
+  sum-in-header h e =
+      let two : getD sizes 0x0A 0 ≡ 2 = eqb-true _ _ (and-right (eqb (getD counts 0x0A 0) 1) _ (each (onceNoted counts sizes) mandatory e (record { id = 0x0A; size = 2 }) sum-listed)) in
+      omega (arith, noted .within h 0x0A (omega arith))

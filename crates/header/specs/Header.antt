@@ -35,10 +35,14 @@ pairsOf (known id size meaning ∷ rest) = record { id = id; size = size } ∷ p
 abbrev pub mandatory : List Pair
 mandatory = pairsOf mandatoryItems
 
--- each pair's item is there exactly once, with its length
-abbrev pub allOnce : List Pair → Items → Bool
-allOnce [] is = true
-allOnce (p ∷ rest) is = eqb (countOf (p .id) is) 1 && eqb (sizeOf (p .id) is) (p .size) && allOnce rest is
+-- every pair passes the test
+abbrev pub every : (Pair → Bool) → List Pair → Bool
+every test [] = true
+every test (p ∷ rest) = test p && every test rest
+
+-- the pair's item is there exactly once, with its length
+abbrev pub once : Items → Pair → Bool
+once is p = eqb (countOf (p .id) is) 1 && eqb (sizeOf (p .id) is) (p .size)
 
 -- the value of the item with the id, a number of n bytes
 abbrev pub valueOf : ℕ → ℕ → List ℕ → ℕ
@@ -100,7 +104,7 @@ unfoldable pub keepsRules : List ℕ → ℕ → Bool
 keepsRules s number =
     beginsRight s
     && leb 1 (headerLength s)
-    && allOnce mandatory (items s)
+    && every (once (items s)) mandatory
     && leb (countOf 0x12 (items s)) 1
     && valuesAgree (headerOf s) (headerSum s) number
 

@@ -33,10 +33,9 @@ pub record Noted (s : List ℕ) (end : ℕ) (counts sizes starts : List ℕ) : T
   pub within : 0 < end → (id : ℕ) → id < 19 → getD starts id 0 + getD sizes id 0 ≤ end
   pub inside : end ≤ length s
 
--- `allOnce`, by the notes
-abbrev pub onceNoted : List Pair → List ℕ → List ℕ → Bool
-onceNoted [] counts sizes = true
-onceNoted (p ∷ rest) counts sizes = eqb (getD counts (p .id) 0) 1 && eqb (getD sizes (p .id) 0) (p .size) && onceNoted rest counts sizes
+-- `once`, by the notes
+abbrev pub onceNoted : List ℕ → List ℕ → Pair → Bool
+onceNoted counts sizes p = eqb (getD counts (p .id) 0) 1 && eqb (getD sizes (p .id) 0) (p .size)
 
 -- item 12, of which count items were met and the last one's data start at the place
 abbrev pub uploadNoted : List ℕ → ℕ → ℕ → Upload

@@ -235,7 +235,10 @@ pub fn read_header(s: &[u8], number: u32) -> HeaderRead
     if end == 0 {
         return HeaderRead::Refused(8);
     }
-    if !notes::complete(&counts, &sizes) {
+    if !notes::all_once(&counts, &sizes) {
+        return HeaderRead::Refused(8);
+    }
+    if 1 < counts[0x12] {
         return HeaderRead::Refused(8);
     }
     let header = values::values(s, end, &counts, &starts);

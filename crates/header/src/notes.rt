@@ -5,12 +5,10 @@ use super::Item;
 use super::Pair;
 use super::Step;
 ghost use mathlib.Core.Path.{_≡_};
-ghost use mathlib.Core.Bool.{_&&_};
 ghost use Prim.Native.Nat.{_+_, _<_};
-ghost use lib.Dec.{leb};
 ghost use lib.ListN.{getD};
-ghost use Rattle.header.specs.Header.{mandatory};
-ghost use Rattle.header.specs.Notes.{Noted, onceNoted, withMark, none};
+ghost use Rattle.header.specs.Header.{mandatory, every};
+ghost use Rattle.header.specs.Notes.{none, withMark, Noted, onceNoted};
 
 // The mandatory items: id and length.
 const MANDATORY: [Pair; 11] = [
@@ -61,20 +59,25 @@ fn note(counts: &mut [usize; 19], sizes: &mut [usize; 19], starts: &mut [usize; 
     }
 }
 
-// Whether each mandatory item was met exactly once, with its length, and item 12 at most once.
-pub(crate) fn complete(counts: &[usize; 19], sizes: &[usize; 19]) -> bool
-    ensures { λ r. ⌜ r ≡ onceNoted mandatory (now (counts .entry)) (now (sizes .entry)) && leb (getD (now (counts .entry)) 0x12 0) 1 ⌝ }
+// Whether each mandatory item was met exactly once, with its length.
+pub(crate) fn all_once(counts: &[usize; 19], sizes: &[usize; 19]) -> bool
+    ensures { λ r. ⌜ r ≡ every (onceNoted (now (counts .entry)) (now (sizes .entry))) mandatory ⌝ }
 {
     let table = MANDATORY;
     for k in 0..11 {
         let pair = table[k];
-        let id = pair.id as usize;
-        if counts[id] != 1 {
-            return false;
-        }
-        if sizes[id] != pair.size {
+        if !once(counts, sizes, pair) {
             return false;
         }
     }
-    counts[0x12] <= 1
+    true
+}
+
+// Whether the pair's item was met exactly once, with its length.
+fn once(counts: &[usize; 19], sizes: &[usize; 19], pair: Pair) -> bool
+    requires { ⌜ pair .id < 19 ⌝ }
+    ensures { λ r. ⌜ r ≡ onceNoted (now (counts .entry)) (now (sizes .entry)) pair ⌝ }
+{
+    let id = pair.id as usize;
+    (counts[id] == 1) & (sizes[id] == pair.size)
 }

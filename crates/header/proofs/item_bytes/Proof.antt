@@ -1,3 +1,20 @@
+use mathlib.Core.Path.{_≡_, refl, sym, ap, ap₂, _∙_}
+use mathlib.Core.Bool.{Bool, true, false, cond}
+use mathlib.Core.List.{List}
+use Prim.Native.Nat.{ℕ, _+_, _-_, _≤_}
+use native.Mathlib.Omega.{arith}
+use lib.Dec.{eqb}
+use lib.ListN.{length, take, drop}
+use denote.Ref.{now}
+use borrow.Author.Needs.{needs}
+use borrow.Author.Tests.{eq-eqb, ne-eqb}
+use Rattle.header.specs.declared.Item.{Item}
+use Rattle.header.specs.declared.Cursor.{Cursor}
+use Rattle.header.specs.declared.Step.{Step}
+use Rattle.header.specs.declared.Step.the-variants.{Found}
+use Rattle.header.specs.Items.{stepAt, Items, itemsFrom, items, lastOf, startOf, sizeOf}
+use Rattle.header.specs.Data.{dataOf}
+use Rattle.header.proofs.ItemLaws.{items-by, found-by-told}
 use Rattle.header.proofs.item_bytes.Statement.{statement}
 use Rattle.header.proofs.item_bytes.Tie as tie
 use Rattle.header.proofs.item_bytes.Reads as reads
@@ -5,91 +22,151 @@ use Rattle.header.proofs.item_bytes.Lts as lts
 use Rattle.header.proofs.Cursor.first.Reads as first-reads
 use Rattle.header.proofs.Cursor.step.Reads as step-reads
 
+abbrev Start : Item → ℕ
+Start i = i .start
+
+abbrev Size : Item → ℕ
+Size i = i .size
+
+-- what is known of the last item with the id when the cursor is at a place: with the items from there on it is the last of all
+record SoFar (s : List ℕ) (id at start size : ℕ) : Type 0 where
+  pub started : lastOf Start start id (itemsFrom s at) ≡ startOf id (items s)
+  pub sized : lastOf Size size id (itemsFrom s at) ≡ sizeOf id (items s)
+  pub within : start + size ≤ length s
+
+before-all : (s : List ℕ) (id at : ℕ) → at ≡ 2 → SoFar s id at 0 0
+before-all s id at e = rw e (record { started = refl; sized = refl; within = omega arith })
+
+module _ (s : List ℕ) (id at start size : ℕ) (sofar : SoFar s id at start size) where
+  -- one item more: with the id, and with another
+  module _ (r : Step) (i : Item) (c : Cursor) (told : r ≡ Found i c) (stepped : r ≡ stepAt s at) where
+    last-more : (f : Item → ℕ) (d : ℕ) (b : Bool) → eqb (i .id) id ≡ b → lastOf f (cond b (f i) d) id (itemsFrom s (c .at)) ≡ lastOf f d id (itemsFrom s at)
+    last-more f d b e =
+        ap (λ (x : Bool). lastOf f (cond x (f i) d) id (itemsFrom s (c .at))) (sym e) ∙ ap (lastOf f d id) (sym (items-by s at told stepped))
+
+    taken : i .id ≡ id → SoFar s id (c .at) (i .start) (i .size)
+    taken e =
+        let x = found-by-told s at told stepped in
+        let b = eq-eqb (i .id) id e in
+        record {
+          started = last-more Start start true b ∙ sofar .started;
+          sized = last-more Size size true b ∙ sofar .sized;
+          within = omega (arith, x .starts, x .next, x .within);
+        }
+
+    passed : (i .id ≡ id → ⊥) → SoFar s id (c .at) start size
+    passed e =
+        let b = ne-eqb (i .id) id e in
+        record { started = last-more Start start false b ∙ sofar .started; sized = last-more Size size false b ∙ sofar .sized; within = sofar .within }
+
+  -- where no item is left
+  part : (rest : Items) → itemsFrom s at ≡ rest → ((f : Item → ℕ) (d : ℕ) → lastOf f d id rest ≡ d) → take (start + size - start) (drop start s) ≡ dataOf id s
+  unfolding dataOf
+  part rest here last =
+      let n : start + size - start ≡ size = omega arith in
+      let a : start ≡ startOf id (items s) = sym (last Start start) ∙ ap (lastOf Start start id) (sym here) ∙ sofar .started in
+      let b : size ≡ sizeOf id (items s) = sym (last Size size) ∙ ap (lastOf Size size id) (sym here) ∙ sofar .sized in
+      ap₂ (λ (m k : ℕ). take m (drop k s)) (n ∙ b) a
+
 abbrev Inv-loop : tie.InvT-loop
-Inv-loop s id start₀ size₀ cursor₀ start size cursor = ?
+Inv-loop s id start₀ size₀ cursor₀ start size cursor = SoFar s id (cursor .at) start size
 
 abbrev μ-loop : tie.MeasureT-loop
-μ-loop s id start₀ size₀ cursor₀ start size cursor = ?
+μ-loop s id start₀ size₀ cursor₀ start size cursor = length s - cursor .at
 
 -- src/lib.rt:201:9
 first-requires : tie.Need-first-requires Inv-loop μ-loop
-first-requires c κs = ?
+first-requires c κs = search needs
 
 -- src/lib.rt:202:5
 loop-holds : tie.Need-loop-holds Inv-loop μ-loop
-loop-holds c = ?
+loop-holds c = before-all _ _ _ (c .first .ensures)
 
 -- src/lib.rt:203:15
 step-requires : tie.Need-step-requires Inv-loop μ-loop
-step-requires c κs = ?
+step-requires c κs = search needs
 
 -- src/lib.rt:204:25
 enum-known-item : tie.Need-enum-known-item Inv-loop μ-loop
-enum-known-item c = ?
+enum-known-item c = search needs
 
 -- src/lib.rt:202:5
 loop-less : tie.Need-loop-less Inv-loop μ-loop
-loop-less c = ?
+loop-less c =
+    let i = c .before .before .before in
+    let x = found-by-told _ _ (i .item .given .1) (i .before .before .step .ensures) in
+    omega (arith, x .next, x .within)
 
 -- src/lib.rt:202:5
 loop-again : tie.Need-loop-again Inv-loop μ-loop
-loop-again c = ?
+loop-again c =
+    let i = c .before .before .before in
+    taken _ _ _ _ _ (i .before .before .before .loop .inv) _ _ _ (i .item .given .1) (i .before .before .step .ensures) (c .if1 .taken)
 
 -- src/lib.rt:202:5
 loop-less-2 : tie.Need-loop-less-2 Inv-loop μ-loop
-loop-less-2 c = ?
+loop-less-2 c =
+    let i = c .before .before .before in
+    let x = found-by-told _ _ (i .item .given .1) (i .before .before .step .ensures) in
+    omega (arith, x .next, x .within)
 
 -- src/lib.rt:202:5
 loop-again-2 : tie.Need-loop-again-2 Inv-loop μ-loop
-loop-again-2 c = ?
+loop-again-2 c =
+    let i = c .before .before .before in
+    passed _ _ _ _ _ (i .before .before .before .loop .inv) _ _ _ (i .item .given .1) (i .before .before .step .ensures) (c .if1 .left)
 
 -- src/lib.rt:212:27
 enum-told : tie.Need-enum-told Inv-loop μ-loop
-enum-told c = ?
+enum-told c = search needs
 
 -- src/lib.rt:212:27
 add-end : tie.Need-add-end Inv-loop μ-loop
-add-end c = ?
+add-end c = omega (arith, c .before .before .before .loop .inv .within)
 
 -- src/lib.rt:213:24
 sub-result : tie.Need-sub-result Inv-loop μ-loop
-sub-result c = ?
+sub-result c = omega (arith, c .before .before .before .loop .inv .within)
 
 -- src/lib.rt:213:24
 part-result-start : tie.Need-part-result-start Inv-loop μ-loop
-part-result-start c = ?
+part-result-start c = omega arith
 
 -- src/lib.rt:213:24
 part-result-end : tie.Need-part-result-end Inv-loop μ-loop
-part-result-end c = ?
+part-result-end c = c .before .before .before .loop .inv .within
 
 -- src/lib.rt:213:17
 returns : tie.Need-returns Inv-loop μ-loop
-returns c = ?
+returns c =
+    let e = c .before in
+    part _ _ _ _ _ (e .before .before .before .loop .inv) _ (items-by _ _ (e .enum-told .given .1) (e .before .before .step .ensures)) (λ f d. refl)
 
 -- src/lib.rt:216:27
 enum-told-2 : tie.Need-enum-told-2 Inv-loop μ-loop
-enum-told-2 c = ?
+enum-told-2 c = search needs
 
 -- src/lib.rt:216:27
 add-end-2 : tie.Need-add-end-2 Inv-loop μ-loop
-add-end-2 c = ?
+add-end-2 c = omega (arith, c .before .before .before .loop .inv .within)
 
 -- src/lib.rt:217:24
 sub-result-2 : tie.Need-sub-result-2 Inv-loop μ-loop
-sub-result-2 c = ?
+sub-result-2 c = omega (arith, c .before .before .before .loop .inv .within)
 
 -- src/lib.rt:217:24
 part-result-start-2 : tie.Need-part-result-start-2 Inv-loop μ-loop
-part-result-start-2 c = ?
+part-result-start-2 c = omega arith
 
 -- src/lib.rt:217:24
 part-result-end-2 : tie.Need-part-result-end-2 Inv-loop μ-loop
-part-result-end-2 c = ?
+part-result-end-2 c = c .before .before .before .loop .inv .within
 
 -- src/lib.rt:217:17
 returns-2 : tie.Need-returns-2 Inv-loop μ-loop
-returns-2 c = ?
+returns-2 c =
+    let e = c .before in
+    part _ _ _ _ _ (e .before .before .before .loop .inv) _ (items-by _ _ (e .enum-told2 .given .1) (e .before .before .step .ensures)) (λ f d. refl)
 
 pub item-bytes-spec : {M : Type 1} → statement M
 item-bytes-spec =

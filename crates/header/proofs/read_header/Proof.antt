@@ -1,14 +1,116 @@
+use mathlib.Core.Path.{_≡_, sym, ap, ap₂, _∙_}
+use mathlib.Core.Bool.{Bool, true, false, _&&_, and-false}
+use mathlib.Core.List.{List}
+use Prim.Native.Nat.{ℕ, _≤_, _<_}
+use native.Mathlib.Omega.{arith}
+use lib.Dec.{leb}
+use lib.ListN.{length, getD, take}
+use lib.Seq.{length-take-le}
+use denote.Ref.{now}
 use borrow.Author.Needs.{needs}
+use borrow.Author.Tests.{le-leb, lt-leb, not-true, not-false}
+use Rattle.reason.specs.Answer.{accepted}
+use Rattle.header.specs.declared.Header.{Header}
+use Rattle.header.specs.Items.{items, countOf}
+use Rattle.header.specs.Header.{beginsRight, headerLength, mandatory, every, once, headerSum, valuesAgree, headerOf, keepsRules, readHeader}
+use Rattle.header.specs.Notes.{Noted, onceNoted}
+use Rattle.header.proofs.NoteLaws.{once-by-notes, values-by-notes, sum-by-notes, in-header, sum-in-header}
+use Rattle.header.proofs.HeaderLaws.{reads-8, reads-header}
 use Rattle.header.proofs.read_header.Statement.{statement}
 use Rattle.header.proofs.read_header.Tie as tie
 use Rattle.header.proofs.read_header.Reads as reads
 use Rattle.header.proofs.read_header.Lts as lts
-use Rattle.header.proofs.notes.complete.Reads as complete-reads
+use Rattle.header.proofs.notes.all_once.Reads as all-once-reads
 use Rattle.header.proofs.notes.walk.Reads as walk-reads
 use Rattle.header.proofs.values.agree.Reads as agree-reads
 use Rattle.header.proofs.values.begins.Reads as begins-reads
 use Rattle.header.proofs.values.sum_but.Reads as sum-but-reads
 use Rattle.header.proofs.values.values.Reads as values-reads
+
+-- the five tests of the rules: one that fails, and all that hold
+no-1 : (a b c d e : Bool) → a ≡ false → (a && b && c && d && e) ≡ false
+no-1 a b c d e h = rw h
+
+no-2 : (a b c d e : Bool) → b ≡ false → (a && b && c && d && e) ≡ false
+no-2 a b c d e h = rw (h, and-false a)
+
+no-3 : (a b c d e : Bool) → c ≡ false → (a && b && c && d && e) ≡ false
+no-3 a b c d e h = rw (h, and-false (a && b))
+
+no-4 : (a b c d e : Bool) → d ≡ false → (a && b && c && d && e) ≡ false
+no-4 a b c d e h = rw (h, and-false (a && b && c))
+
+no-5 : (a b c d e : Bool) → e ≡ false → (a && b && c && d && e) ≡ false
+no-5 a b c d e h = rw (h, and-false (a && b && c && d))
+
+all-5 : (a b c d e : Bool) → a ≡ true → b ≡ true → c ≡ true → d ≡ true → e ≡ true → (a && b && c && d && e) ≡ true
+all-5 a b c d e p q r s t = rw (p, q, r, s, t)
+
+module _ (s : List ℕ) (number : ℕ) where
+  abbrev Begins : Bool
+  Begins = beginsRight s
+
+  abbrev Ends : Bool
+  Ends = leb 1 (headerLength s)
+
+  abbrev Once : Bool
+  Once = every (once (items s)) mandatory
+
+  abbrev Upload : Bool
+  Upload = leb (countOf 0x12 (items s)) 1
+
+  abbrev Agree : Bool
+  Agree = valuesAgree (headerOf s) (headerSum s) number
+
+  not-begun : Begins ≡ false → keepsRules s number ≡ false
+  unfolding keepsRules
+  not-begun h = no-1 Begins Ends Once Upload Agree h
+
+  -- by the notes
+  module _ (end : ℕ) (counts sizes starts : List ℕ) (noted : Noted s end counts sizes starts) where
+    not-ended : end ≡ 0 → keepsRules s number ≡ false
+    unfolding keepsRules
+    not-ended h = no-2 Begins Ends Once Upload Agree (lt-leb 1 (headerLength s) (omega (arith, noted .ends)))
+
+    not-once : every (onceNoted counts sizes) mandatory ≡ false → keepsRules s number ≡ false
+    unfolding keepsRules
+    not-once h = no-3 Begins Ends Once Upload Agree (sym (once-by-notes s end counts sizes starts noted) ∙ h)
+
+    twice : 1 < getD counts 0x12 0 → keepsRules s number ≡ false
+    unfolding keepsRules
+    twice h = no-4 Begins Ends Once Upload Agree (lt-leb (countOf 0x12 (items s)) 1 (omega (arith, noted .counted 0x12 (omega arith))))
+
+    -- what `agree` answered of the values and the sum
+    module _ (h : Header) (sum : ℕ) (valued : h ≡ headerOf s) (summed : sum ≡ headerSum s) (r : Bool) (agreed : r ≡ valuesAgree h sum number) where
+      agrees : Agree ≡ r
+      agrees = ap₂ (λ (x : Header) (y : ℕ). valuesAgree x y number) (sym valued) (sym summed) ∙ sym agreed
+
+      not-agreed : r ≡ false → keepsRules s number ≡ false
+      unfolding keepsRules
+      not-agreed e = no-5 Begins Ends Once Upload Agree (agrees ∙ e)
+
+      kept : Begins ≡ true → 0 < end → every (onceNoted counts sizes) mandatory ≡ true → getD counts 0x12 0 ≤ 1 → r ≡ true → keepsRules s number ≡ true
+      unfolding keepsRules
+      kept b e o u a =
+          all-5 Begins Ends Once Upload Agree b
+          (le-leb 1 (headerLength s) (omega (arith, noted .ends)))
+          (sym (once-by-notes s end counts sizes starts noted) ∙ o)
+          (le-leb (countOf 0x12 (items s)) 1 (omega (arith, noted .counted 0x12 (omega arith))))
+          (agrees ∙ a)
+
+-- what the walk noted, from past it
+abbrev W : tie.After-walk → tie.Start
+W c = c .before .before .before .before .before .before .before
+
+abbrev Sum : tie.After-sum-but → tie.After-walk
+Sum c = c .before .before .before .before .before .before .before .before .before .before .before
+
+-- past the tests of the walk and of the table: the header ends, and each mandatory item is there once
+ended : (c : tie.Else4) → 0 < c .before .before .before .before .before .before .walk .result
+ended c = omega (arith, c .before .before .before .before .before .if2 .left)
+
+listed : (c : tie.Else4) → c .before .before .all-once .result ≡ true
+listed c = not-false _ (c .before .if3 .left)
 
 -- src/lib.rt:228:9
 begins-requires : tie.Need-begins-requires
@@ -16,7 +118,7 @@ begins-requires c κs = search needs
 
 -- src/lib.rt:229:9
 returns : tie.Need-returns
-returns c = ?
+returns c = let a = c .before .before .before .args in sym (reads-8 (now (a .s)) (a .number) (not-begun _ _ (sym (c .before .begins .ensures) ∙ not-true _ (c .if1 .taken))))
 
 -- src/lib.rt:234:9
 walk-requires : tie.Need-walk-requires
@@ -24,43 +126,84 @@ walk-requires c κs = search needs
 
 -- src/lib.rt:236:9
 returns-2 : tie.Need-returns-2
-returns-2 c = ?
+returns-2 c = let a = W (c .before) .args in sym (reads-8 (now (a .s)) (a .number) (not-ended _ _ _ _ _ _ (c .before .walk .ensures) (c .if2 .taken)))
 
 -- src/lib.rt:238:9
-complete-requires : tie.Need-complete-requires
-complete-requires c κs = search needs
+all-once-requires : tie.Need-all-once-requires
+all-once-requires c κs = search needs
 
 -- src/lib.rt:239:9
 returns-3 : tie.Need-returns-3
-returns-3 c = ?
+returns-3 c =
+    let w = c .before .before .before .before .before in
+    let a = W w .args in
+    sym (reads-8 (now (a .s)) (a .number) (not-once _ _ _ _ _ _ (w .walk .ensures) (sym (c .before .all-once .ensures) ∙ not-true _ (c .if3 .taken))))
 
--- src/lib.rt:241:9
+-- src/lib.rt:241:12
+array-read-if4 : tie.Need-array-read-if4
+array-read-if4 c = search needs
+
+-- src/lib.rt:242:9
+returns-4 : tie.Need-returns-4
+returns-4 c =
+    let w = c .before .before .before .before .before .before in
+    let a = W w .args in
+    sym (reads-8 (now (a .s)) (a .number) (twice _ _ _ _ _ _ (w .walk .ensures) (c .if4 .taken)))
+
+-- src/lib.rt:244:9
 values-requires : tie.Need-values-requires
-values-requires c κs = ?
+values-requires c κs =
+    let e = c .before .before .before .before .before .before .before in
+    let n = e .before .walk .ensures in
+    let z : 0 < e .before .walk .result = omega (arith, e .if2 .left) in
+    (in-header _ _ _ _ _ n z 0x02 (omega arith), in-header _ _ _ _ _ n z 0x03 (omega arith))
 
--- src/lib.rt:242:31
+-- src/lib.rt:245:31
 slice-aggregate-sum-but : tie.Need-slice-aggregate-sum-but
-slice-aggregate-sum-but c = ?
+slice-aggregate-sum-but c = sym (length-take-le _ _ (c .before .before .before .before .before .before .before .before .before .before .walk .ensures .inside))
 
--- src/lib.rt:242:42
+-- src/lib.rt:245:42
 array-read-sum-but : tie.Need-array-read-sum-but
 array-read-sum-but c = search needs
 
--- src/lib.rt:242:9
+-- src/lib.rt:245:9
 sum-but-requires : tie.Need-sum-but-requires
-sum-but-requires c κs = ?
+sum-but-requires c κs =
+    let e = c .before .before .before .before in
+    let w = e .before .before .before .before .before .before in
+    let long = length-take-le (w .walk .result) (now (W w .args .s)) (w .walk .ensures .inside) in
+    let a = e .before .before in
+    omega (arith, long, sum-in-header _ _ _ _ _ (w .walk .ensures) (ended e) (sym (a .all-once .ensures) ∙ listed e))
 
--- src/lib.rt:243:9
+-- src/lib.rt:246:9
 agree-requires : tie.Need-agree-requires
 agree-requires c κs = search needs
 
--- src/lib.rt:244:9
-returns-4 : tie.Need-returns-4
-returns-4 c = ?
+-- src/lib.rt:247:9
+returns-5 : tie.Need-returns-5
+returns-5 c =
+    let b = c .before .before in
+    let w = Sum b in
+    let a = W w .args in
+    let n = w .walk .ensures in
+    let valued = b .before .before .values .ensures ∙ values-by-notes _ _ _ _ _ n in
+    let summed = b .sum-but .ensures ∙ sum-by-notes _ _ _ _ _ n in
+    sym (reads-8 (now (a .s)) (a .number) (not-agreed _ _ _ _ _ _ n _ _ valued summed _ (c .before .agree .ensures) (not-true _ (c .if5 .taken))))
 
 -- src/lib.rt:225:1
-returns-5 : tie.Need-returns-5
-returns-5 c = ?
+returns-6 : tie.Need-returns-6
+returns-6 c =
+    let b = c .before .before in
+    let e = b .before .before .before .before .before in
+    let w = Sum b in
+    let a = W w .args in
+    let n = w .walk .ensures in
+    let valued = b .before .before .values .ensures ∙ values-by-notes _ _ _ _ _ n in
+    let summed = b .sum-but .ensures ∙ sum-by-notes _ _ _ _ _ n in
+    let o = e .before .before in
+    let begun = sym (w .before .before .before .before .before .begins .ensures) ∙ not-false _ (w .before .before .before .before .if1 .left) in
+    let k = kept _ _ _ _ _ _ n _ _ valued summed _ (c .before .agree .ensures) begun (ended e) (sym (o .all-once .ensures) ∙ listed e) (e .if4 .left) (not-false _ (c .if5 .left)) in
+    ap accepted valued ∙ sym (reads-header (now (a .s)) (a .number) k)
 
 pub read-header-spec : {M : Type 1} → statement M
 read-header-spec =
@@ -70,12 +213,14 @@ read-header-spec =
     returns
     walk-requires
     returns-2
-    complete-requires
+    all-once-requires
     returns-3
+    array-read-if4
+    returns-4
     values-requires
     slice-aggregate-sum-but
     array-read-sum-but
     sum-but-requires
     agree-requires
-    returns-4
-    returns-5)
+    returns-5
+    returns-6)
