@@ -6,8 +6,8 @@
 // as parts of the frame. The contracts cite `specs/Piece.antt` and `specs/Entry.antt`. That each reason
 // is given exactly when it is first is in `proofs/InOrder.antt`, and what an accepted frame says of its
 // bytes in `proofs/Says.antt`.
-mod entry;
-mod piece;
+mod entries;
+mod pieces;
 
 use ax25::Head;
 use ax25::HeadRead;
@@ -60,7 +60,7 @@ pub fn read_piece(frame: &[u8]) -> PieceRead
     ensures { λ r. ⌜ pieceAnswer r ≡ readPiece (now (frame .entry)) ⌝ }
 {
     match ax25::read_head(frame, FILE) {
-        HeadRead::Accepted(head) => piece::read(&frame[16..], head),
+        HeadRead::Accepted(head) => pieces::read(&frame[16..], head),
         HeadRead::Refused(n) => PieceRead::Refused(n),
     }
 }
@@ -80,7 +80,7 @@ pub fn bytes_of(frame: &[u8], read: PieceRead) -> &[u8]
     ensures { λ r. ⌜ now r ≡ bytesRead (pieceAnswer read) (now (frame .entry)) ⌝ }
 {
     match read {
-        PieceRead::Accepted(_) => piece::between(frame),
+        PieceRead::Accepted(_) => pieces::between(frame),
         PieceRead::Refused(_) => &frame[0..0],
     }
 }
@@ -91,7 +91,7 @@ pub fn read_entry(frame: &[u8]) -> EntryRead
     ensures { λ r. ⌜ entryAnswer r ≡ readEntry (now (frame .entry)) ⌝ }
 {
     match ax25::read_head(frame, DIRECTORY) {
-        HeadRead::Accepted(head) => entry::read(&frame[16..], head),
+        HeadRead::Accepted(head) => entries::read(&frame[16..], head),
         HeadRead::Refused(n) => EntryRead::Refused(n),
     }
 }
@@ -102,7 +102,7 @@ pub fn header_bytes(frame: &[u8]) -> &[u8]
     ensures { λ r. ⌜ now r ≡ headerBytes (now (frame .entry)) ⌝ }
 {
     match read_entry(frame) {
-        EntryRead::Accepted(_) => entry::between(frame),
+        EntryRead::Accepted(_) => entries::between(frame),
         EntryRead::Refused(_) => &frame[0..0],
     }
 }

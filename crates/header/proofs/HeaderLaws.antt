@@ -1,6 +1,6 @@
 -- Laws of reading a header: accepted exactly if it keeps the rules, and else refused 8.
 -- Assumes nothing.
-use mathlib.Core.Path.{_≡_, sym, ap, _∙_}
+use mathlib.Core.Path.{_≡_, refl, sym, ap, _∙_}
 use mathlib.Core.Bool.{true, false, not}
 use mathlib.Core.List.{List, []}
 use mathlib.Core.Logic.{⊎-elim}
@@ -9,7 +9,7 @@ use borrow.Author.Tests.{not-true, not-false}
 use Rattle.reason.specs.Answer.{accepted, refused}
 use Rattle.reason.proofs.OrderLaws.{skip, stop, none-left, accepted-only-if, refused-only-if}
 use Rattle.header.specs.declared.Header.{Header}
-use Rattle.header.specs.Header.{keepsRules, headerChecks, headerOf, readHeader}
+use Rattle.header.specs.Header.{headerLength, keepsRules, headerChecks, headerOf, readHeader}
 
 module _ (s : List ℕ) (number : ℕ) where
   pub reads-8 : keepsRules s number ≡ false → readHeader s number ≡ refused 8
@@ -31,3 +31,8 @@ module _ (s : List ℕ) (number : ℕ) where
   unfolding readHeader
   header-refused n e =
       ⊎-elim (λ w. (not-true (keepsRules s number) (w .0), sym (w .1))) (λ w. absurd (w .1)) (refused-only-if n (headerChecks s number) (headerOf s) e)
+
+-- the header's length, as its values tell it
+pub told-length : (s : List ℕ) → headerOf s .bytes ≡ headerLength s
+unfolding headerOf
+told-length s = refl

@@ -1,0 +1,237 @@
+use mathlib.Core.Path.{_≡_, sym, ap, ap₂, _∙_}
+use mathlib.Core.Bool.{Bool, true, false, _&&_, and-false}
+use mathlib.Core.List.{List}
+use Prim.Native.Nat.{ℕ, _-_, _≤_}
+use native.Mathlib.Omega.{arith}
+use lib.Dec.{eqb}
+use lib.ListN.{length, take, drop, length-drop}
+use lib.Seq.{length-take-le}
+use denote.Ref.{now}
+use borrow.Author.Tests.{eq-eqb, ne-eqb, not-true, not-false}
+use borrow.Author.Needs.{needs}
+use Rattle.reason.specs.Answer.{accepted, refused}
+use Rattle.reason.proofs.Bools.{and-both}
+use Rattle.octets.specs.Numbers.{byteAt, numberAt}
+use Rattle.remainder.specs.Check.{checkRight}
+use Rattle.ax25.specs.declared.Head.{Head}
+use Rattle.header.specs.declared.Header.{Header}
+use Rattle.header.specs.declared.HeaderRead.{HeaderRead}
+use Rattle.header.specs.declared.HeaderRead.the-variants as header
+use Rattle.header.specs.Header.{headerLength, keepsRules, headerOf, headerAnswer, readHeader}
+use Rattle.header.proofs.HeaderLaws.{header-accepted, header-refused, told-length}
+use Rattle.frame.specs.declared.Entry.{Entry}
+use Rattle.frame.specs.Entry.{flagsAllowed, headerWhole, headerPart, headerRight, entryFields}
+use Rattle.frame.proofs.EntryLaws.{reads-1, reads-6, reads-5, reads-14, reads-8, reads-entry}
+use Rattle.frame.proofs.entries.read.Statement.{statement}
+use Rattle.frame.proofs.entries.read.Tie as tie
+use Rattle.frame.proofs.entries.read.Reads as reads
+use Rattle.frame.proofs.entries.read.Lts as lts
+use Rattle.frame.proofs.entries.allowed.Reads as allowed-reads
+use Rattle.frame.proofs.entries.whole.Reads as whole-reads
+use Rattle.header.proofs.read_header.Reads as read-header-reads
+use Rattle.octets.proofs.number4.Reads as number4-reads
+use Rattle.remainder.proofs.check_right.Reads as check-right-reads
+
+-- what reading the header part says: refused; of another length than the part; and all of the part
+module _ (s : List ℕ) (long : 19 ≤ length s) (number : ℕ) (named : number ≡ numberAt 4 s 1) (r : HeaderRead) (read : headerAnswer r ≡ readHeader (headerPart s) number) where
+  part-long : length (headerPart s) ≡ length s - 2 - 17
+  part-long = length-take-le (length s - 2 - 17) (drop 17 s) (omega (arith, length-drop 17 s))
+
+  not-header : (n : ℕ) → r ≡ header.Refused n → headerRight s ≡ false
+  not-header n told =
+      let k = header-refused (headerPart s) number n (sym read ∙ ap headerAnswer told) .0 in
+      ap (λ (b : Bool). b && eqb (headerLength (headerPart s)) (length (headerPart s))) (ap (keepsRules (headerPart s)) (sym named) ∙ k)
+
+  module _ (h : Header) (told : r ≡ header.Accepted h) where
+    is : h ≡ headerOf (headerPart s)
+    is = header-accepted (headerPart s) number h (sym read ∙ ap headerAnswer told) .1
+
+    kept : keepsRules (headerPart s) (numberAt 4 s 1) ≡ true
+    kept = ap (keepsRules (headerPart s)) (sym named) ∙ header-accepted (headerPart s) number h (sym read ∙ ap headerAnswer told) .0
+
+    bytes : h .bytes ≡ headerLength (headerPart s)
+    bytes = ap (λ (x : Header). x .bytes) is ∙ told-length (headerPart s)
+
+    followed : (h .bytes ≡ length s - 2 - 17 → ⊥) → headerRight s ≡ false
+    followed d =
+        ap (λ (b : Bool). keepsRules (headerPart s) (numberAt 4 s 1) && b) (ne-eqb (headerLength (headerPart s)) (length (headerPart s)) (λ e. d (bytes ∙ e ∙ part-long)))
+        ∙ and-false (keepsRules (headerPart s) (numberAt 4 s 1))
+
+    alone : h .bytes ≡ length s - 2 - 17 → headerRight s ≡ true
+    alone e =
+        and-both (keepsRules (headerPart s) (numberAt 4 s 1)) (eqb (headerLength (headerPart s)) (length (headerPart s))) kept
+        (eq-eqb (headerLength (headerPart s)) (length (headerPart s)) (sym bytes ∙ e ∙ sym part-long))
+
+fields : (head : Head) (s : List ℕ) (number offset old new : ℕ) (h : Header) → number ≡ numberAt 4 s 1 → offset ≡ numberAt 4 s 5 → old ≡ numberAt 4 s 9
+    → new ≡ numberAt 4 s 13 → h ≡ headerOf (headerPart s)
+    → _≡_ {A = Entry} (record { head = head; flags = byteAt s 0; number = number; offset = offset; old = old; new = new; header = h }) (entryFields head s)
+unfolding entryFields
+fields head s number offset old new h a b c d e = rw (a, b, c, d, e)
+
+-- the function's entry, from past each test, and what the tests showed
+abbrev E : tie.Else2 → tie.Start
+E c = c .before .before .before .before
+
+long : (c : tie.Else2) → 19 ≤ length (now (E c .args .s))
+long c = c .before .before .if1 .left
+
+right : (c : tie.Else2) → checkRight (now (E c .args .s)) ≡ true
+right c = sym (c .before .check-right .ensures) ∙ not-false _ (c .if2 .left)
+
+flagged : (c : tie.Else3) → flagsAllowed (byteAt (now (E (c .before .before .before) .args .s)) 0) ≡ true
+flagged c = sym (c .before .allowed .ensures) ∙ not-false _ (c .if3 .left)
+
+-- the header is whole exactly if `whole` says so
+judged : (c : tie.After-whole) → let s = now (E (c .before .before .before .before .before) .args .s) in c .whole .result ≡ headerWhole (byteAt s 0) (numberAt 4 s 5)
+judged c = c .whole .ensures ∙ ap (headerWhole (byteAt (now (E (c .before .before .before .before .before) .args .s)) 0)) (c .before .number4 .ensures)
+
+abbrev K : tie.Else4 → tie.Else2
+K c = c .before .before .before .before .before .before
+
+whole : (c : tie.Else4) → let s = now (E (K c) .args .s) in headerWhole (byteAt s 0) (numberAt 4 s 5) ≡ true
+whole c = sym (judged (c .before)) ∙ not-false _ (c .if4 .left)
+
+-- src/entries.rt:16:9
+returns : tie.Need-returns
+returns c = sym (reads-1 (now (c .before .before .args .s)) _ (c .if1 .taken))
+
+-- src/entries.rt:18:9
+check-right-requires : tie.Need-check-right-requires
+check-right-requires c κs = search needs
+
+-- src/entries.rt:19:9
+returns-2 : tie.Need-returns-2
+returns-2 c = let e = c .before .before .before .before in sym (reads-6 (now (e .args .s)) _ (c .before .before .if1 .left) (sym (c .before .check-right .ensures) ∙ not-true _ (c .if2 .taken)))
+
+-- src/entries.rt:21:17
+shared-slice-read-flags : tie.Need-shared-slice-read-flags
+shared-slice-read-flags c = search needs
+
+-- src/entries.rt:22:9
+allowed-requires : tie.Need-allowed-requires
+allowed-requires c κs = search needs
+
+-- src/entries.rt:23:9
+returns-3 : tie.Need-returns-3
+returns-3 c = let k = c .before .before .before in sym (reads-5 (now (E k .args .s)) _ (long k) (right k) (sym (c .before .allowed .ensures) ∙ not-true _ (c .if3 .taken)))
+
+-- src/entries.rt:25:9
+number4-requires : tie.Need-number4-requires
+number4-requires c κs = search needs
+
+-- src/entries.rt:26:9
+whole-requires : tie.Need-whole-requires
+whole-requires c κs = search needs
+
+-- src/entries.rt:27:9
+returns-4 : tie.Need-returns-4
+returns-4 c =
+    let w = c .before in
+    let k = w .before .before .before .before .before in
+    sym (reads-14 (now (E k .args .s)) _ (long k) (right k) (flagged (w .before .before)) (sym (judged w) ∙ not-true _ (c .if4 .taken)))
+
+-- src/entries.rt:29:9
+number4-requires-2 : tie.Need-number4-requires-2
+number4-requires-2 c κs = search needs
+
+-- src/entries.rt:30:9
+number4-requires-3 : tie.Need-number4-requires-3
+number4-requires-3 c κs = search needs
+
+-- src/entries.rt:31:9
+number4-requires-4 : tie.Need-number4-requires-4
+number4-requires-4 c κs = search needs
+
+-- src/entries.rt:32:15
+sub-end : tie.Need-sub-end
+sub-end c = search needs
+
+-- src/entries.rt:33:60
+sub-read-header : tie.Need-sub-read-header
+sub-read-header c = search needs
+
+-- src/entries.rt:33:60
+part-read-header-start : tie.Need-part-read-header-start
+part-read-header-start c = search needs
+
+-- src/entries.rt:33:60
+part-read-header-end : tie.Need-part-read-header-end
+part-read-header-end c = search needs
+
+-- src/entries.rt:33:40
+read-header-requires : tie.Need-read-header-requires
+read-header-requires c κs = search needs
+
+-- src/entries.rt:33:30
+enum-known-header : tie.Need-enum-known-header
+enum-known-header c = search needs
+
+-- src/entries.rt:34:9
+enum-told : tie.Need-enum-told
+enum-told c = search needs
+
+-- src/entries.rt:34:9
+returns-5 : tie.Need-returns-5
+returns-5 c =
+    let r = c .before .before in
+    let n = r .before .before .before .before in
+    let f = n .before in
+    let k = K f in
+    let s = now (E k .args .s) in
+    sym (reads-8 s _ (long k) (right k) (flagged (f .before .before .before)) (whole f) (not-header s (long k) _ (n .number42 .ensures) _ (r .read-header .ensures) _ (c .enum-told .given .1)))
+
+-- src/entries.rt:36:24
+sub-if5 : tie.Need-sub-if5
+sub-if5 c = omega (arith, long (K (c .before .before .before .before .before .before .before .before)))
+
+-- src/entries.rt:37:9
+returns-6 : tie.Need-returns-6
+returns-6 c =
+    let h = c .before .before .before in
+    let r = h .before .before in
+    let n = r .before .before .before .before in
+    let f = n .before in
+    let k = K f in
+    let s = now (E k .args .s) in
+    sym (reads-8 s _ (long k) (right k) (flagged (f .before .before .before)) (whole f) (followed s (long k) _ (n .number42 .ensures) _ (r .read-header .ensures) _ (h .header .given .1) (c .if5 .taken)))
+
+-- src/entries.rt:12:1
+returns-7 : tie.Need-returns-7
+returns-7 c =
+    let h = c .before .before .before in
+    let r = h .before .before in
+    let n = r .before .before .before .before in
+    let f = n .before in
+    let k = K f in
+    let s = now (E k .args .s) in
+    let part = is s (long k) _ (n .number42 .ensures) _ (r .read-header .ensures) _ (h .header .given .1) in
+    ap accepted (fields (E k .args .head) s _ _ _ _ _ (n .number42 .ensures) (f .before .before .number4 .ensures) (r .before .before .before .number43 .ensures) (r .before .before .number44 .ensures) part)
+    ∙ sym (reads-entry s _ (long k) (right k) (flagged (f .before .before .before)) (whole f) (alone s (long k) _ (n .number42 .ensures) _ (r .read-header .ensures) _ (h .header .given .1) (c .if5 .left)))
+
+pub read-spec : {M : Type 1} → statement M
+read-spec =
+    tie.close
+    (tie.spec
+    returns
+    check-right-requires
+    returns-2
+    shared-slice-read-flags
+    allowed-requires
+    returns-3
+    number4-requires
+    whole-requires
+    returns-4
+    number4-requires-2
+    number4-requires-3
+    number4-requires-4
+    sub-end
+    sub-read-header
+    part-read-header-start
+    part-read-header-end
+    read-header-requires
+    enum-known-header
+    enum-told
+    returns-5
+    sub-if5
+    returns-6
+    returns-7)
