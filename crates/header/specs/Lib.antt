@@ -3,3 +3,4 @@ pub mod Header
 pub mod Data
 pub mod Rules
 pub mod Notes
+pub mod Figure

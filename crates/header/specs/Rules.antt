@@ -1,4 +1,4 @@
--- The rules of a file header (01, "File header"), one by one. `proofs/Exactly.antt` shows that a header is accepted exactly
+-- The rules of a file header (01, "File header"), one by one. `proofs/RulesKept.antt` shows that a header is accepted exactly
 -- if it keeps them all.
 -- Assumes nothing.
 use mathlib.Core.Path.{_≡_}

@@ -3,7 +3,7 @@
 // A cursor steps from item to item. `read_header` walks over all items once, notes what it meets,
 // and answers the header's values and its length, or reason 8; what follows the header in the slice
 // is not looked at. Its contracts cite `specs/Items.antt`, `specs/Header.antt` and `specs/Data.antt`.
-// `specs/Rules.antt` says the rules as propositions, and `proofs/Exactly.antt` that a header is
+// `specs/Rules.antt` says the rules as propositions, and `proofs/RulesKept.antt` that a header is
 // accepted exactly if it keeps them all.
 mod notes;
 mod values;

@@ -1,0 +1,97 @@
+-- A header is accepted exactly if it keeps the rules (01, "File header"), and else it is refused 8.
+-- Assumes nothing.
+use mathlib.Core.Path.{_≡_, refl}
+use mathlib.Core.Bool.{Bool, true, false, _&&_}
+use mathlib.Core.List.{List, List·Memᴰ}
+use Prim.Native.Nat.{ℕ}
+use lib.Dec.{leb, eqb}
+use borrow.Author.Tests.{eqb-true, eq-eqb, leb-true, le-leb}
+use Rattle.reason.specs.Answer.{accepted, refused}
+use Rattle.reason.proofs.Bools.{and-left, and-right, and-both}
+use Rattle.reason.proofs.OrderLaws.{not-both}
+use Rattle.octets.specs.Numbers.{byteAt}
+use Rattle.header.specs.declared.Pair.{Pair}
+use Rattle.header.specs.declared.Header.{Header}
+use Rattle.header.specs.Items.{items, countOf, sizeOf}
+use Rattle.header.specs.Header.{beginsRight, headerLength, mandatory, every, once, valueOf, headerSum, valuesAgree, headerOf, keepsRules, readHeader}
+use Rattle.header.specs.Rules.{Rules}
+use Rattle.header.proofs.TableLaws.{each, all-pass}
+use Rattle.header.proofs.HeaderLaws.{reads-8, reads-header, header-accepted, header-refused}
+
+module _ (s : List ℕ) (number : ℕ) where
+  -- the test's parts, from the last to the first
+  abbrev Begins : Bool
+  Begins = beginsRight s
+
+  abbrev Ends : Bool
+  Ends = leb 1 (headerLength s)
+
+  abbrev Once : Bool
+  Once = every (once (items s)) mandatory
+
+  abbrev Upload : Bool
+  Upload = leb (countOf 0x12 (items s)) 1
+
+  abbrev Sum : Bool
+  Sum = eqb (valueOf 0x0A 2 s) (headerSum s)
+
+  abbrev Own : Bool
+  Own = eqb (valueOf 0x01 4 s) number
+
+  abbrev Behind : Bool
+  Behind = leb (headerLength s) (valueOf 0x0B 2 s)
+
+  abbrev Before : Bool
+  Before = leb (valueOf 0x0B 2 s) (valueOf 0x04 4 s)
+
+  pub rules : keepsRules s number ≡ true → Rules s number
+  unfolding keepsRules headerOf
+  rules k =
+      let four = and-left (Begins && Ends && Once && Upload) (Sum && Own && Behind && Before) k in
+      let values = and-right (Begins && Ends && Once && Upload) (Sum && Own && Behind && Before) k in
+      let three = and-left (Begins && Ends && Once) Upload four in
+      let two = and-left (Begins && Ends) Once three in
+      let listed = and-right (Begins && Ends) Once three in
+      let begun = and-left Begins Ends two in
+      let sums = and-left (Sum && Own && Behind) Before values in
+      let owns = and-left (Sum && Own) Behind sums in
+      record {
+        marker = (eqb-true _ _ (and-left (eqb (byteAt s 0) 0xAA) (eqb (byteAt s 1) 0x55) begun), eqb-true _ _ (and-right (eqb (byteAt s 0) 0xAA) (eqb (byteAt s 1) 0x55) begun));
+        ends = leb-true _ _ (and-right Begins Ends two);
+        once = λ p m. eqb-true _ _ (and-left (eqb (countOf (p .id) (items s)) 1) (eqb (sizeOf (p .id) (items s)) (p .size)) (each (once (items s)) mandatory listed p m));
+        sized = λ p m. eqb-true _ _ (and-right (eqb (countOf (p .id) (items s)) 1) (eqb (sizeOf (p .id) (items s)) (p .size)) (each (once (items s)) mandatory listed p m));
+        upload = leb-true _ _ (and-right (Begins && Ends && Once) Upload four);
+        sum = eqb-true _ _ (and-left Sum Own owns);
+        own = eqb-true _ _ (and-right Sum Own owns);
+        behind = leb-true _ _ (and-right (Sum && Own) Behind sums);
+        before = leb-true _ _ (and-right (Sum && Own && Behind) Before values);
+      }
+
+  pub kept : Rules s number → keepsRules s number ≡ true
+  unfolding keepsRules headerOf
+  kept r =
+      let begun = and-both (eqb (byteAt s 0) 0xAA) (eqb (byteAt s 1) 0x55) (eq-eqb _ _ (r .marker .0)) (eq-eqb _ _ (r .marker .1)) in
+      let listed = all-pass (once (items s)) mandatory (λ p m. and-both _ _ (eq-eqb _ _ (r .once p m)) (eq-eqb _ _ (r .sized p m))) in
+      let owns = and-both Sum Own (eq-eqb _ _ (r .sum)) (eq-eqb _ _ (r .own)) in
+      let values = and-both (Sum && Own && Behind) Before (and-both (Sum && Own) Behind owns (le-leb _ _ (r .behind))) (le-leb _ _ (r .before)) in
+      let two = and-both Begins Ends begun (le-leb _ _ (r .ends)) in
+      and-both (Begins && Ends && Once && Upload) (Sum && Own && Behind && Before)
+      (and-both (Begins && Ends && Once) Upload (and-both (Begins && Ends) Once two listed) (le-leb _ _ (r .upload))) values
+
+  -- accepted exactly if it keeps them, and then with its values
+  pub accepts-if : Rules s number → readHeader s number ≡ accepted (headerOf s)
+  accepts-if r = reads-header s number (kept r)
+
+  pub accepts-only-if : (h : Header) → readHeader s number ≡ accepted h → Rules s number × (h ≡ headerOf s)
+  accepts-only-if h e = (rules (header-accepted s number h e .0), header-accepted s number h e .1)
+
+  -- refused 8 exactly if it does not keep them all, and never for another reason
+  pub refuses-only-if : (n : ℕ) → readHeader s number ≡ refused n → (n ≡ 8) × (Rules s number → ⊥)
+  refuses-only-if n e = (header-refused s number n e .1, λ r. not-both (headerOf s) n (accepts-if r) e)
+
+  refuses-by : (b : Bool) → keepsRules s number ≡ b → (Rules s number → ⊥) → readHeader s number ≡ refused 8
+  refuses-by true k broken = absurd (broken (rules k))
+  refuses-by false k broken = reads-8 s number k
+
+  pub refuses-if : (Rules s number → ⊥) → readHeader s number ≡ refused 8
+  refuses-if broken = refuses-by (keepsRules s number) refl broken
