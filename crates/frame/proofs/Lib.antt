@@ -1,3 +1,6 @@
 pub mod Layers
 pub mod PieceLaws
 pub mod EntryLaws
+pub mod Says
+pub mod InOrder
+pub mod OnlyOne

@@ -89,3 +89,11 @@ stop n cs a e = rw e
 pub none-left : {A : Type 0} (a : A) → firstOf [] a ≡ accepted a
 unfolding firstOf
 none-left a = refl
+
+-- where two lists one after the other accept, each does
+pub both-accept : {A B : Type 0} (cs ds : List Check) (a : A) (b b′ : B) → firstOf (cs ++ ds) b ≡ accepted b′
+    → (firstOf cs a ≡ accepted a) × (firstOf ds b ≡ accepted b′)
+unfolding firstOf
+both-accept [] ds a b b′ e = (refl, e)
+both-accept (check true m ∷ cs) ds a b b′ e = absurd (not-both b′ m e refl)
+both-accept (check false m ∷ cs) ds a b b′ e = both-accept cs ds a b b′ e

@@ -1,0 +1,132 @@
+-- What an accepted frame says: its fields are its bytes at their places, counted from 0 in the whole frame (demand 2).
+-- Assumes nothing.
+use mathlib.Core.Path.{_≡_, refl, sym, ap, _∙_}
+use mathlib.Core.Bool.{true, not, _&&_}
+use mathlib.Core.List.{List}
+use mathlib.Core.Logic.{⊎-elim}
+use Prim.Native.Nat.{ℕ, _+_, _-_, _/_, _%_, _≤_, _<_}
+use native.Mathlib.Omega.{arith}
+use lib.Dec.{eqb}
+use lib.ListN.{length, drop, length-drop}
+use lib.Seq.{getD-drop, length-take-le}
+use borrow.Author.Tests.{ltb-false, eqb-true, eqb-false, not-false}
+use Rattle.reason.specs.Answer.{Answer, accepted}
+use Rattle.reason.specs.Order.{Check, firstOf}
+use Rattle.reason.proofs.Bools.{and-left, and-right, le-or-lt}
+use Rattle.reason.proofs.OrderLaws.{accepted-only-if, both-accept}
+use Rattle.octets.specs.Numbers.{byteAt, numberAt}
+use Rattle.octets.proofs.NumberLaws.{number-drop}
+use Rattle.remainder.specs.Check.{checkRight}
+use Rattle.ax25.specs.Address.{addressAt}
+use Rattle.ax25.specs.Head.{headLength, longestFrame, headChecks, headOf, readHead}
+use Rattle.ax25.proofs.HeadLaws.{HeadSays, head-says}
+use Rattle.header.specs.Header.{headerLength, headerOf, keepsRules}
+use Rattle.header.specs.Rules.{Rules}
+use Rattle.header.proofs.RulesKept.{rules}
+use Rattle.frame.specs.declared.Piece.{Piece}
+use Rattle.frame.specs.declared.Entry.{Entry}
+use Rattle.frame.specs.Information.{file, directory, checkLength, informationOf}
+use Rattle.frame.specs.Piece.{pieceHeader, pieceFlags, pieceChecks, pieceFields, pieceOrder, pieceOf, readPiece, pieceData, pieceBytes, bytesRead}
+use Rattle.frame.specs.Entry.{entryHeader, flagsAllowed, headerWhole, headerPart, headerRight, entryChecks, entryFields, entryOrder, entryOf, readEntry}
+
+-- a byte and a number of the information, at their places in the frame
+byte-in : (frame : List ℕ) (at : ℕ) → byteAt (informationOf frame) at ≡ byteAt frame (headLength + at)
+byte-in frame at = getD-drop headLength frame at 0
+
+number-in : (n : ℕ) (frame : List ℕ) (at : ℕ) → numberAt n (informationOf frame) at ≡ numberAt n frame (headLength + at)
+number-in n frame at = number-drop n headLength frame at
+
+at-least : (n m : ℕ) → n ≡ m - 16 → 11 ≤ n → (n ≡ 11 → ⊥) → 28 ≤ m
+at-least n m e l d = ⊎-elim (λ (h : 12 ≤ n). omega arith) (λ (h : n < 12). absurd (d (omega arith))) (le-or-lt 12 n)
+
+-- An accepted piece. The longest has 244 bytes, since a frame has at most 271.
+pub record PieceSays (frame : List ℕ) (p : Piece) : Type 0 where
+  pub head : HeadSays file frame (p .head)
+  pub flags : byteAt frame 16 ≡ pieceFlags
+  pub number : p .number ≡ numberAt 4 frame 17
+  pub kind : p .kind ≡ byteAt frame 21
+  pub offset : p .offset ≡ numberAt 3 frame 22
+  pub checked : checkRight (informationOf frame) ≡ true
+  pub bytes : pieceBytes frame ≡ pieceData frame
+  pub size : length (pieceBytes frame) + 27 ≡ length frame
+  pub some : 1 ≤ length (pieceBytes frame)
+  pub most : length (pieceBytes frame) ≤ 244
+
+pub piece-says : (frame : List ℕ) (p : Piece) → readPiece frame ≡ accepted p → PieceSays frame p
+unfolding readPiece pieceChecks pieceFields
+piece-says frame p e =
+    let s = informationOf frame in
+    let two = both-accept (headChecks file frame) (pieceChecks s) (headOf frame) (pieceOf frame) p e in
+    let all = accepted-only-if (pieceChecks s) (pieceOf frame) p (two .1) in
+    let none = all .0 in
+    let is : p ≡ pieceOf frame = all .1 in
+    let head = head-says file frame (headOf frame) (two .0) in
+    let long : pieceHeader + checkLength ≤ length s = ltb-false (length s) (pieceHeader + checkLength) (none .0) in
+    let more : length s ≡ pieceHeader + checkLength → ⊥ = eqb-false (length s) (pieceHeader + checkLength) (none .1 .1 .1 .0) in
+    let all-of-it : length s ≡ length frame - 16 = length-drop 16 frame in
+    let bytes : pieceBytes frame ≡ pieceData frame = ap (λ (r : Answer Piece). bytesRead r frame) e in
+    let part : length (pieceData frame) ≡ length frame - 27 = length-take-le (length frame - 27) (drop 25 frame) (omega (arith, length-drop 25 frame)) in
+    let size : length (pieceBytes frame) ≡ length frame - 27 = ap length bytes ∙ part in
+    let least : 28 ≤ length frame = at-least (length s) (length frame) all-of-it long more in
+    record {
+      head = rw is head;
+      flags = sym (byte-in frame 0) ∙ eqb-true _ _ (not-false _ (none .1 .1 .0));
+      number = ap (λ (q : Piece). q .number) is ∙ number-in 4 frame 1;
+      kind = ap (λ (q : Piece). q .kind) is ∙ byte-in frame 5;
+      offset = ap (λ (q : Piece). q .offset) is ∙ number-in 3 frame 6;
+      checked = not-false _ (none .1 .0);
+      bytes = bytes;
+      size = omega arith;
+      some = omega arith;
+      most = omega (arith, head .short);
+    }
+
+-- An accepted directory entry: bit 5 set, no bit but 5 and 6, the offset 0, and a header of the entry's own file that keeps the
+-- rules and is all of what stands before the check bytes.
+pub record EntrySays (frame : List ℕ) (e : Entry) : Type 0 where
+  pub head : HeadSays directory frame (e .head)
+  pub flags : e .flags ≡ byteAt frame 16
+  pub allowed : (e .flags % 32 ≡ 0) × (e .flags / 128 ≡ 0)
+  pub whole : (e .flags / 32 % 2 ≡ 1) × (e .offset ≡ 0)
+  pub number : e .number ≡ numberAt 4 frame 17
+  pub offset : e .offset ≡ numberAt 4 frame 21
+  pub old : e .old ≡ numberAt 4 frame 25
+  pub new : e .new ≡ numberAt 4 frame 29
+  pub checked : checkRight (informationOf frame) ≡ true
+  pub ruled : Rules (headerPart (informationOf frame)) (e .number)
+  pub alone : headerLength (headerPart (informationOf frame)) ≡ length (headerPart (informationOf frame))
+  pub header : e .header ≡ headerOf (headerPart (informationOf frame))
+
+pub entry-says : (frame : List ℕ) (e : Entry) → readEntry frame ≡ accepted e → EntrySays frame e
+unfolding readEntry entryChecks entryFields
+entry-says frame e r =
+    let s = informationOf frame in
+    let two = both-accept (headChecks directory frame) (entryChecks s) (headOf frame) (entryOf frame) e r in
+    let all = accepted-only-if (entryChecks s) (entryOf frame) e (two .1) in
+    let none = all .0 in
+    let is : e ≡ entryOf frame = all .1 in
+    let f = byteAt s 0 in
+    let flagged : flagsAllowed f ≡ true = not-false (flagsAllowed f) (none .1 .1 .0) in
+    let whole : headerWhole f (numberAt 4 s 5) ≡ true = not-false (headerWhole f (numberAt 4 s 5)) (none .1 .1 .1 .0) in
+    let right : headerRight s ≡ true = not-false (headerRight s) (none .1 .1 .1 .1 .0) in
+    let k = keepsRules (headerPart s) (numberAt 4 s 1) in
+    let a = eqb (headerLength (headerPart s)) (length (headerPart s)) in
+    rw is (record {
+      head = head-says directory frame (headOf frame) (two .0);
+      flags = byte-in frame 0;
+      allowed = (eqb-true (f % 32) 0 (and-left (eqb (f % 32) 0) (eqb (f / 128) 0) flagged), eqb-true (f / 128) 0 (and-right (eqb (f % 32) 0) (eqb (f / 128) 0) flagged));
+      whole = (eqb-true (f / 32 % 2) 1 (and-left (eqb (f / 32 % 2) 1) (eqb (numberAt 4 s 5) 0) whole), eqb-true (numberAt 4 s 5) 0 (and-right (eqb (f / 32 % 2) 1) (eqb (numberAt 4 s 5) 0) whole));
+      number = number-in 4 frame 1;
+      offset = number-in 4 frame 5;
+      old = number-in 4 frame 9;
+      new = number-in 4 frame 13;
+      checked = not-false _ (none .1 .0);
+      ruled = rules (headerPart s) (numberAt 4 s 1) (and-left k a right);
+      alone = eqb-true _ _ (and-right k a right);
+      header = refl;
+    })
+
+-- No frame is both: the protocol tells a piece and an entry apart. (A piece and a request share the protocol; there the flags do:
+-- a piece's are 02.)
+pub not-piece-and-entry : (frame : List ℕ) (p : Piece) (e : Entry) → readPiece frame ≡ accepted p → readEntry frame ≡ accepted e → ⊥
+not-piece-and-entry frame p e x y = omega (arith, piece-says frame p x .head .named, entry-says frame e y .head .named)
