@@ -4,3 +4,4 @@ pub mod EntryLaws
 pub mod Says
 pub mod InOrder
 pub mod OnlyOne
+pub mod Cases

@@ -19,11 +19,13 @@ pub(crate) fn read(s: &[u8], head: Head) -> EntryRead
         return EntryRead::Refused(6);
     }
     let flags = s[0];
-    if !allowed(flags) {
+    let offset = octets::number4(s, 5);
+    let allowed = flags_allowed(flags);
+    let whole = header_whole(flags, offset);
+    if !allowed {
         return EntryRead::Refused(5);
     }
-    let offset = octets::number4(s, 5);
-    if !whole(flags, offset) {
+    if !whole {
         return EntryRead::Refused(14);
     }
     let number = octets::number4(s, 1);
@@ -59,14 +61,14 @@ pub(crate) fn between(frame: &[u8]) -> &[u8]
 }
 
 // Whether no bit is set but bits 5 and 6, which are free.
-fn allowed(flags: u8) -> bool
+fn flags_allowed(flags: u8) -> bool
     ensures { λ r. ⌜ r ≡ flagsAllowed flags ⌝ }
 {
     (flags % 32 == 0) & (flags / 128 == 0)
 }
 
 // Whether bit 5 is set and the offset 0: the header is whole.
-fn whole(flags: u8, offset: u32) -> bool
+fn header_whole(flags: u8, offset: u32) -> bool
     ensures { λ r. ⌜ r ≡ headerWhole flags offset ⌝ }
 {
     (flags / 32 % 2 == 1) & (offset == 0)

@@ -26,8 +26,8 @@ use Rattle.frame.proofs.entries.read.Statement.{statement}
 use Rattle.frame.proofs.entries.read.Tie as tie
 use Rattle.frame.proofs.entries.read.Reads as reads
 use Rattle.frame.proofs.entries.read.Lts as lts
-use Rattle.frame.proofs.entries.allowed.Reads as allowed-reads
-use Rattle.frame.proofs.entries.whole.Reads as whole-reads
+use Rattle.frame.proofs.entries.flags_allowed.Reads as flags-allowed-reads
+use Rattle.frame.proofs.entries.header_whole.Reads as header-whole-reads
 use Rattle.header.proofs.read_header.Reads as read-header-reads
 use Rattle.octets.proofs.number4.Reads as number4-reads
 use Rattle.remainder.proofs.check_right.Reads as check-right-reads
@@ -78,18 +78,21 @@ long c = c .before .before .if1 .left
 right : (c : tie.Else2) → checkRight (now (E c .args .s)) ≡ true
 right c = sym (c .before .check-right .ensures) ∙ not-false _ (c .if2 .left)
 
-flagged : (c : tie.Else3) → flagsAllowed (byteAt (now (E (c .before .before .before) .args .s)) 0) ≡ true
-flagged c = sym (c .before .allowed .ensures) ∙ not-false _ (c .if3 .left)
+-- what the two tests of the flags and the offset answered
+abbrev J : tie.After-header-whole → tie.Else2
+J c = c .before .before .before .before
 
--- the header is whole exactly if `whole` says so
-judged : (c : tie.After-whole) → let s = now (E (c .before .before .before .before .before) .args .s) in c .whole .result ≡ headerWhole (byteAt s 0) (numberAt 4 s 5)
-judged c = c .whole .ensures ∙ ap (headerWhole (byteAt (now (E (c .before .before .before .before .before) .args .s)) 0)) (c .before .number4 .ensures)
+judged : (c : tie.After-header-whole) → let s = now (E (J c) .args .s) in c .header-whole .result ≡ headerWhole (byteAt s 0) (numberAt 4 s 5)
+judged c = c .header-whole .ensures ∙ ap (headerWhole (byteAt (now (E (J c) .args .s)) 0)) (c .before .before .number4 .ensures)
+
+flagged : (c : tie.Else3) → flagsAllowed (byteAt (now (E (J (c .before)) .args .s)) 0) ≡ true
+flagged c = sym (c .before .before .flags-allowed .ensures) ∙ not-false _ (c .if3 .left)
 
 abbrev K : tie.Else4 → tie.Else2
-K c = c .before .before .before .before .before .before
+K c = J (c .before .before)
 
 whole : (c : tie.Else4) → let s = now (E (K c) .args .s) in headerWhole (byteAt s 0) (numberAt 4 s 5) ≡ true
-whole c = sym (judged (c .before)) ∙ not-false _ (c .if4 .left)
+whole c = sym (judged (c .before .before)) ∙ not-false _ (c .if4 .left)
 
 -- src/entries.rt:16:9
 returns : tie.Need-returns
@@ -108,69 +111,69 @@ shared-slice-read-flags : tie.Need-shared-slice-read-flags
 shared-slice-read-flags c = search needs
 
 -- src/entries.rt:22:9
-allowed-requires : tie.Need-allowed-requires
-allowed-requires c κs = search needs
-
--- src/entries.rt:23:9
-returns-3 : tie.Need-returns-3
-returns-3 c = let k = c .before .before .before in sym (reads-5 (now (E k .args .s)) _ (long k) (right k) (sym (c .before .allowed .ensures) ∙ not-true _ (c .if3 .taken)))
-
--- src/entries.rt:25:9
 number4-requires : tie.Need-number4-requires
 number4-requires c κs = search needs
 
--- src/entries.rt:26:9
-whole-requires : tie.Need-whole-requires
-whole-requires c κs = search needs
+-- src/entries.rt:23:9
+flags-allowed-requires : tie.Need-flags-allowed-requires
+flags-allowed-requires c κs = search needs
 
--- src/entries.rt:27:9
-returns-4 : tie.Need-returns-4
-returns-4 c =
-    let w = c .before in
-    let k = w .before .before .before .before .before in
-    sym (reads-14 (now (E k .args .s)) _ (long k) (right k) (flagged (w .before .before)) (sym (judged w) ∙ not-true _ (c .if4 .taken)))
+-- src/entries.rt:24:9
+header-whole-requires : tie.Need-header-whole-requires
+header-whole-requires c κs = search needs
+
+-- src/entries.rt:26:9
+returns-3 : tie.Need-returns-3
+returns-3 c = let k = J (c .before) in sym (reads-5 (now (E k .args .s)) _ (long k) (right k) (sym (c .before .before .flags-allowed .ensures) ∙ not-true _ (c .if3 .taken)))
 
 -- src/entries.rt:29:9
+returns-4 : tie.Need-returns-4
+returns-4 c =
+    let h = c .before .before in
+    let k = J h in
+    sym (reads-14 (now (E k .args .s)) _ (long k) (right k) (flagged (c .before)) (sym (judged h) ∙ not-true _ (c .if4 .taken)))
+
+-- src/entries.rt:31:9
 number4-requires-2 : tie.Need-number4-requires-2
 number4-requires-2 c κs = search needs
 
--- src/entries.rt:30:9
+-- src/entries.rt:32:9
 number4-requires-3 : tie.Need-number4-requires-3
 number4-requires-3 c κs = search needs
 
--- src/entries.rt:31:9
+-- src/entries.rt:33:9
 number4-requires-4 : tie.Need-number4-requires-4
 number4-requires-4 c κs = search needs
 
--- src/entries.rt:32:15
+-- src/entries.rt:34:15
 sub-end : tie.Need-sub-end
 sub-end c = search needs
 
--- src/entries.rt:33:60
+-- src/entries.rt:35:60
 sub-read-header : tie.Need-sub-read-header
 sub-read-header c = search needs
 
--- src/entries.rt:33:60
+-- src/entries.rt:35:60
 part-read-header-start : tie.Need-part-read-header-start
 part-read-header-start c = search needs
 
--- src/entries.rt:33:60
+-- src/entries.rt:35:60
 part-read-header-end : tie.Need-part-read-header-end
 part-read-header-end c = search needs
 
--- src/entries.rt:33:40
+-- src/entries.rt:35:40
 read-header-requires : tie.Need-read-header-requires
 read-header-requires c κs = search needs
 
--- src/entries.rt:33:30
+-- src/entries.rt:35:30
 enum-known-header : tie.Need-enum-known-header
 enum-known-header c = search needs
 
--- src/entries.rt:34:9
+-- src/entries.rt:36:9
 enum-told : tie.Need-enum-told
 enum-told c = search needs
 
--- src/entries.rt:34:9
+-- src/entries.rt:36:9
 returns-5 : tie.Need-returns-5
 returns-5 c =
     let r = c .before .before in
@@ -178,13 +181,13 @@ returns-5 c =
     let f = n .before in
     let k = K f in
     let s = now (E k .args .s) in
-    sym (reads-8 s _ (long k) (right k) (flagged (f .before .before .before)) (whole f) (not-header s (long k) _ (n .number42 .ensures) _ (r .read-header .ensures) _ (c .enum-told .given .1)))
+    sym (reads-8 s _ (long k) (right k) (flagged (f .before)) (whole f) (not-header s (long k) _ (n .number42 .ensures) _ (r .read-header .ensures) _ (c .enum-told .given .1)))
 
--- src/entries.rt:36:24
+-- src/entries.rt:38:24
 sub-if5 : tie.Need-sub-if5
 sub-if5 c = omega (arith, long (K (c .before .before .before .before .before .before .before .before)))
 
--- src/entries.rt:37:9
+-- src/entries.rt:39:9
 returns-6 : tie.Need-returns-6
 returns-6 c =
     let h = c .before .before .before in
@@ -193,7 +196,7 @@ returns-6 c =
     let f = n .before in
     let k = K f in
     let s = now (E k .args .s) in
-    sym (reads-8 s _ (long k) (right k) (flagged (f .before .before .before)) (whole f) (followed s (long k) _ (n .number42 .ensures) _ (r .read-header .ensures) _ (h .header .given .1) (c .if5 .taken)))
+    sym (reads-8 s _ (long k) (right k) (flagged (f .before)) (whole f) (followed s (long k) _ (n .number42 .ensures) _ (r .read-header .ensures) _ (h .header .given .1) (c .if5 .taken)))
 
 -- src/entries.rt:12:1
 returns-7 : tie.Need-returns-7
@@ -205,8 +208,8 @@ returns-7 c =
     let k = K f in
     let s = now (E k .args .s) in
     let part = is s (long k) _ (n .number42 .ensures) _ (r .read-header .ensures) _ (h .header .given .1) in
-    ap accepted (fields (E k .args .head) s _ _ _ _ _ (n .number42 .ensures) (f .before .before .number4 .ensures) (r .before .before .before .number43 .ensures) (r .before .before .number44 .ensures) part)
-    ∙ sym (reads-entry s _ (long k) (right k) (flagged (f .before .before .before)) (whole f) (alone s (long k) _ (n .number42 .ensures) _ (r .read-header .ensures) _ (h .header .given .1) (c .if5 .left)))
+    ap accepted (fields (E k .args .head) s _ _ _ _ _ (n .number42 .ensures) (f .before .before .before .before .number4 .ensures) (r .before .before .before .number43 .ensures) (r .before .before .number44 .ensures) part)
+    ∙ sym (reads-entry s _ (long k) (right k) (flagged (f .before)) (whole f) (alone s (long k) _ (n .number42 .ensures) _ (r .read-header .ensures) _ (h .header .given .1) (c .if5 .left)))
 
 pub read-spec : {M : Type 1} → statement M
 read-spec =
@@ -216,10 +219,10 @@ read-spec =
     check-right-requires
     returns-2
     shared-slice-read-flags
-    allowed-requires
-    returns-3
     number4-requires
-    whole-requires
+    flags-allowed-requires
+    header-whole-requires
+    returns-3
     returns-4
     number4-requires-2
     number4-requires-3
