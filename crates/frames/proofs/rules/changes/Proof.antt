@@ -1,43 +1,36 @@
+-- `frames::rules::changes` is safe and ends: a turn for each item.
+-- Assumes what the contract of C's `write` says, as every program does that prints.
+use Prim.Native.Nat.{_-_, _≤_}
+use borrow.Author.Needs.{needs}
 use Rattle.frames.proofs.rules.changes.Statement.{statement}
 use Rattle.frames.proofs.rules.changes.Tie as tie
-use Rattle.frames.proofs.rules.changes.Reads as reads
-use Rattle.frames.proofs.rules.changes.Lts as lts
-use Rattle.frames.proofs.headers.changing.Reads as changing-reads
-use Rattle.frames.proofs.rules.changed.Reads as changed-reads
 
 abbrev Inv-loop : tie.InvT-loop
-Inv-loop before behind change k₀ k = ?
+Inv-loop before behind change k₀ k = k ≤ 12
 
 abbrev μ-loop : tie.MeasureT-loop
-μ-loop before behind change k₀ k = ?
+μ-loop before behind change k₀ k = 12 - k
 
--- src/rules.rt:51:5
 loop-holds : tie.Need-loop-holds Inv-loop μ-loop
-loop-holds c = ?
+loop-holds c = search needs
 
--- src/rules.rt:52:33
 changing-requires : tie.Need-changing-requires Inv-loop μ-loop
-changing-requires c κs = ?
+changing-requires c κs = search needs
 
--- src/rules.rt:52:9
 changed-requires : tie.Need-changed-requires Inv-loop μ-loop
-changed-requires c κs = ?
+changed-requires c κs = search needs
 
--- src/rules.rt:51:9
 add-k : tie.Need-add-k Inv-loop μ-loop
-add-k c = ?
+add-k c = search needs
 
--- src/rules.rt:51:5
 loop-less : tie.Need-loop-less Inv-loop μ-loop
-loop-less c = ?
+loop-less c = search needs
 
--- src/rules.rt:51:5
 loop-again : tie.Need-loop-again Inv-loop μ-loop
-loop-again c = ?
+loop-again c = search needs
 
--- src/rules.rt:50:1
 returns : tie.Need-returns Inv-loop μ-loop
-returns c = ?
+returns c = search needs
 
 pub changes-spec : {M : Type 1} → statement M
 changes-spec =

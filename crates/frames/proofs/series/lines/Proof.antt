@@ -1,38 +1,33 @@
+-- `frames::series::lines` is safe and ends: a turn for each number.
+-- Assumes what the contract of C's `write` says, as every program does that prints.
+use Prim.Native.Nat.{_-_, _≤_}
+use borrow.Author.Needs.{needs}
 use Rattle.frames.proofs.series.lines.Statement.{statement}
 use Rattle.frames.proofs.series.lines.Tie as tie
-use Rattle.frames.proofs.series.lines.Reads as reads
-use Rattle.frames.proofs.series.lines.Lts as lts
-use Rattle.frames.proofs.series.line.Reads as line-reads
 
 abbrev Inv-loop : tie.InvT-loop
-Inv-loop series from to n₀ n = ?
+Inv-loop series from to n₀ n = from ≤ n
 
 abbrev μ-loop : tie.MeasureT-loop
-μ-loop series from to n₀ n = ?
+μ-loop series from to n₀ n = to - n
 
--- src/series.rt:61:5
 loop-holds : tie.Need-loop-holds Inv-loop μ-loop
-loop-holds c = ?
+loop-holds c = search needs
 
--- src/series.rt:62:9
 line-requires : tie.Need-line-requires Inv-loop μ-loop
-line-requires c κs = ?
+line-requires c κs = search needs
 
--- src/series.rt:61:9
 add-n : tie.Need-add-n Inv-loop μ-loop
-add-n c = ?
+add-n c = search needs
 
--- src/series.rt:61:5
 loop-less : tie.Need-loop-less Inv-loop μ-loop
-loop-less c = ?
+loop-less c = search needs
 
--- src/series.rt:61:5
 loop-again : tie.Need-loop-again Inv-loop μ-loop
-loop-again c = ?
+loop-again c = search needs
 
--- src/series.rt:60:1
 returns : tie.Need-returns Inv-loop μ-loop
-returns c = ?
+returns c = search needs
 
 pub lines-spec : {M : Type 1} → statement M
 lines-spec =
