@@ -4,7 +4,7 @@ use mathlib.Core.Path.{_≡_, refl}
 use mathlib.Core.List.{List, [], _∷_, _++_}
 use Prim.Native.Nat.{ℕ, _/_, _%_}
 use lib.ListN.{take, drop, set, replicate}
-use Rattle.reason.specs.Answer.{Answer, accepted, refused}
+use Rattle.reason.specs.Answer.{accepted, refused}
 use Rattle.reason.specs.Order.{firstOf}
 use Rattle.octets.specs.Runs.{putIn}
 use Rattle.remainder.specs.Remainder.{withBit, withBits, messageBits, remainderOf}
@@ -18,10 +18,9 @@ use Rattle.header.specs.declared.Upload.the-variants.{At}
 use Rattle.header.specs.declared.Header.{Header}
 use Rattle.header.specs.Items.{mandatoryItems, knownItems, decisionOf, stepWith, stepAt, itemsFrom}
 use Rattle.header.specs.Header.{headerSum, headerOf, keepsRules, readHeader}
-use Rattle.frame.specs.declared.Piece.{Piece}
 use Rattle.frame.specs.declared.Entry.{Entry}
 use Rattle.frame.specs.Piece.{pieceChecks, pieceFields, readPiece, pieceBytes}
-use Rattle.frame.specs.Entry.{headerPart, entryChecks, entryFields, readEntry, headerBytes}
+use Rattle.frame.specs.Entry.{entryChecks, entryFields, readEntry, headerBytes}
 use Rattle.frame.specs.Figure.{figure33}
 
 -- a frame from UOSAT5-11 to VA3SFL-0

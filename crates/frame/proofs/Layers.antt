@@ -34,7 +34,8 @@ module _ {A : Type 0} (protocol : ℕ) (frame : List ℕ) (checks : List ℕ →
     rest = take-all (length frame - headLength) (drop headLength frame) (simp length-drop (omega arith))
 
     -- and its answer is the frame's
-    pub behind-head : (a : Answer A) → a ≡ firstOf (checks (take (length frame - headLength) (drop headLength frame))) (fields h (take (length frame - headLength) (drop headLength frame)))
+    pub behind-head : (a : Answer A)
+        → a ≡ firstOf (checks (take (length frame - headLength) (drop headLength frame))) (fields h (take (length frame - headLength) (drop headLength frame)))
         → a ≡ Both
     behind-head a e =
         e

@@ -1,7 +1,7 @@
 -- What an accepted frame says: its fields are its bytes at their places, counted from 0 in the whole frame (demand 2).
 -- Assumes nothing.
 use mathlib.Core.Path.{_≡_, refl, sym, ap, _∙_}
-use mathlib.Core.Bool.{true, not, _&&_}
+use mathlib.Core.Bool.{true}
 use mathlib.Core.List.{List}
 use mathlib.Core.Logic.{⊎-elim}
 use Prim.Native.Nat.{ℕ, _+_, _-_, _/_, _%_, _≤_, _<_}
@@ -11,14 +11,12 @@ use lib.ListN.{length, drop, length-drop}
 use lib.Seq.{getD-drop, length-take-le}
 use borrow.Author.Tests.{ltb-false, eqb-true, eqb-false, not-false}
 use Rattle.reason.specs.Answer.{Answer, accepted}
-use Rattle.reason.specs.Order.{Check, firstOf}
 use Rattle.reason.proofs.Bools.{and-left, and-right, le-or-lt}
 use Rattle.reason.proofs.OrderLaws.{accepted-only-if, both-accept}
 use Rattle.octets.specs.Numbers.{byteAt, numberAt}
 use Rattle.octets.proofs.NumberLaws.{number-drop}
 use Rattle.remainder.specs.Check.{checkRight}
-use Rattle.ax25.specs.Address.{addressAt}
-use Rattle.ax25.specs.Head.{headLength, longestFrame, headChecks, headOf, readHead}
+use Rattle.ax25.specs.Head.{headLength, headChecks, headOf}
 use Rattle.ax25.proofs.HeadLaws.{HeadSays, head-says}
 use Rattle.header.specs.Header.{headerLength, headerOf, keepsRules}
 use Rattle.header.specs.Rules.{Rules}
@@ -26,8 +24,8 @@ use Rattle.header.proofs.RulesKept.{rules}
 use Rattle.frame.specs.declared.Piece.{Piece}
 use Rattle.frame.specs.declared.Entry.{Entry}
 use Rattle.frame.specs.Information.{file, directory, checkLength, informationOf}
-use Rattle.frame.specs.Piece.{pieceHeader, pieceFlags, pieceChecks, pieceFields, pieceOrder, pieceOf, readPiece, pieceData, pieceBytes, bytesRead}
-use Rattle.frame.specs.Entry.{entryHeader, flagsAllowed, headerWhole, headerPart, headerRight, entryChecks, entryFields, entryOrder, entryOf, readEntry}
+use Rattle.frame.specs.Piece.{pieceHeader, pieceFlags, pieceChecks, pieceFields, pieceOf, readPiece, pieceData, pieceBytes, bytesRead}
+use Rattle.frame.specs.Entry.{flagsAllowed, headerWhole, headerPart, headerRight, entryChecks, entryFields, entryOf, readEntry}
 
 -- a byte and a number of the information, at their places in the frame
 byte-in : (frame : List ℕ) (at : ℕ) → byteAt (informationOf frame) at ≡ byteAt frame (headLength + at)

@@ -4,7 +4,7 @@ use mathlib.Core.Path.{_≡_, refl}
 use mathlib.Core.List.{List, [], _∷_, _++_}
 use Prim.Native.Nat.{ℕ}
 use lib.ListN.{take, drop, set}
-use Rattle.reason.specs.Answer.{Answer, accepted, refused}
+use Rattle.reason.specs.Answer.{accepted, refused}
 use Rattle.reason.specs.Order.{firstOf}
 use Rattle.octets.specs.Runs.{putIn}
 use Rattle.header.specs.declared.Meaning.the-variants.{End, FileNumber, UploadTime, Other}

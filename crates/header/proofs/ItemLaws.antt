@@ -14,7 +14,7 @@ use Rattle.header.specs.declared.Item.{Item}
 use Rattle.header.specs.declared.Cursor.{Cursor}
 use Rattle.header.specs.declared.Step.{Step}
 use Rattle.header.specs.declared.Step.the-variants.{Found, Ended, Broken}
-use Rattle.header.specs.Items.{decisionOf, allowsSize, stepWith, stepAt, Items, item, after, steps, itemsFrom}
+use Rattle.header.specs.Items.{decisionOf, allowsSize, stepWith, stepAt, item, after, steps, itemsFrom}
 
 -- what a step says that finds an item: it stands at the cursor, and the next cursor is behind it, within the list
 pub record Next (s : List ℕ) (at : ℕ) (i : Item) (c : Cursor) : Type 0 where

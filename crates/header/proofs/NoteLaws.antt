@@ -2,20 +2,19 @@
 -- Assumes nothing.
 use mathlib.Core.Path.{_≡_, refl, sym, ap, ap₂, _∙_}
 use mathlib.Core.Bool.{Bool, true, false, cond, _&&_}
-use mathlib.Core.List.{List, [], _∷_, List·Memᴰ, List·Memᴰ·head, List·Memᴰ·tail, List·Memᴰ·not-nil, List·Memᴰ·cases-cons}
+use mathlib.Core.List.{List, [], _∷_}
 use mathlib.Core.Logic.{⊎-elim}
 use Prim.Native.Nat.{ℕ, zero, suc, _+_, _%_, _≤_, _<_}
-use native.Mathlib.Nat.{zero-add, add-zero}
+use native.Mathlib.Nat.{zero-add}
 use native.Mathlib.Omega.{arith}
 use lib.Dec.{ltb, eqb}
 use lib.ListN.{length, getD, take, set, replicate, length-set, List·getD-eq-default}
 use lib.Seq.{getD-set-same, getD-set-other}
-use borrow.Author.Tests.{lt-ltb, ltb-true, eqb-true, eqb-false}
-use Rattle.reason.proofs.Bools.{and-left, and-right, le-or-lt}
+use borrow.Author.Tests.{lt-ltb, eqb-true, eqb-false}
+use Rattle.reason.proofs.Bools.{and-right, le-or-lt}
 use Rattle.octets.specs.Runs.{putIn}
 use Rattle.header.specs.declared.Item.{Item}
 use Rattle.header.specs.declared.Cursor.{Cursor}
-use Rattle.header.specs.declared.Pair.{Pair}
 use Rattle.header.specs.declared.Step.{Step}
 use Rattle.header.specs.declared.Step.the-variants.{Found, Ended, Broken}
 use Rattle.header.specs.Items.{stepAt, Items, item, itemsFrom, items, countOf, lastOf, startOf, sizeOf, endOf}
@@ -110,7 +109,8 @@ module _ (s : List ℕ) (at : ℕ) (counts sizes starts : List ℕ) (sofar : SoF
     counted-by k true e new old = let same : getD counts (i .id) 0 ≡ getD counts k 0 = ap (λ (j : ℕ). getD counts j 0) (eqb-true (i .id) k e) in omega arith
     counted-by k false e new old = omega arith
 
-    few-by : (k : ℕ) (b : Bool) → getD Counts k 0 ≡ cond b (getD counts (i .id) 0 + 1) (getD counts k 0) → getD counts k 0 ≤ at → getD Counts k 0 ≤ c .at
+    few-by : (k : ℕ) (b : Bool) → getD Counts k 0 ≡ cond b (getD counts (i .id) 0 + 1) (getD counts k 0) → getD counts k 0 ≤ at
+        → getD Counts k 0 ≤ c .at
     few-by k true new old = omega (arith, next .next, count-few (i .id))
     few-by k false new old = omega (arith, next .next)
 
@@ -175,10 +175,22 @@ module _ (s : List ℕ) (end : ℕ) (counts sizes starts : List ℕ) (noted : No
   pub values-by-notes : valuesNoted s end counts starts ≡ headerOf s
   unfolding headerOf
   values-by-notes =
-      rw (noted .ends, noted .counted 0x12 (omega arith), noted .started 0x01 (omega arith), noted .started 0x02 (omega arith), noted .started 0x03 (omega arith),
-      noted .started 0x04 (omega arith), noted .started 0x05 (omega arith), noted .started 0x06 (omega arith), noted .started 0x07 (omega arith),
-      noted .started 0x08 (omega arith), noted .started 0x09 (omega arith), noted .started 0x0A (omega arith), noted .started 0x0B (omega arith),
-      noted .started 0x12 (omega arith))
+      rw (
+        noted .ends,
+        noted .counted 0x12 (omega arith),
+        noted .started 0x01 (omega arith),
+        noted .started 0x02 (omega arith),
+        noted .started 0x03 (omega arith),
+        noted .started 0x04 (omega arith),
+        noted .started 0x05 (omega arith),
+        noted .started 0x06 (omega arith),
+        noted .started 0x07 (omega arith),
+        noted .started 0x08 (omega arith),
+        noted .started 0x09 (omega arith),
+        noted .started 0x0A (omega arith),
+        noted .started 0x0B (omega arith),
+        noted .started 0x12 (omega arith),
+      )
 
   pub sum-by-notes : sumOf (putIn (take end s) (getD starts 0x0A 0) (0 ∷ 0 ∷ [])) % 65536 ≡ headerSum s
   unfolding headerSum

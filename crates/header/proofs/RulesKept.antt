@@ -2,7 +2,7 @@
 -- Assumes nothing.
 use mathlib.Core.Path.{_≡_, refl}
 use mathlib.Core.Bool.{Bool, true, false, _&&_}
-use mathlib.Core.List.{List, List·Memᴰ}
+use mathlib.Core.List.{List}
 use Prim.Native.Nat.{ℕ}
 use lib.Dec.{leb, eqb}
 use borrow.Author.Tests.{eqb-true, eq-eqb, leb-true, le-leb}
@@ -10,10 +10,9 @@ use Rattle.reason.specs.Answer.{accepted, refused}
 use Rattle.reason.proofs.Bools.{and-left, and-right, and-both}
 use Rattle.reason.proofs.OrderLaws.{not-both}
 use Rattle.octets.specs.Numbers.{byteAt}
-use Rattle.header.specs.declared.Pair.{Pair}
 use Rattle.header.specs.declared.Header.{Header}
 use Rattle.header.specs.Items.{items, countOf, sizeOf}
-use Rattle.header.specs.Header.{beginsRight, headerLength, mandatory, every, once, valueOf, headerSum, valuesAgree, headerOf, keepsRules, readHeader}
+use Rattle.header.specs.Header.{beginsRight, headerLength, mandatory, every, once, valueOf, headerSum, headerOf, keepsRules, readHeader}
 use Rattle.header.specs.Rules.{Rules}
 use Rattle.header.proofs.TableLaws.{each, all-pass}
 use Rattle.header.proofs.HeaderLaws.{reads-8, reads-header, header-accepted, header-refused}

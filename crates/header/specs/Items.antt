@@ -12,10 +12,8 @@ use Rattle.header.specs.declared.Size.{Size}
 use Rattle.header.specs.declared.Size.the-variants.{Exactly, Any}
 use Rattle.header.specs.declared.Decision.{Decision}
 use Rattle.header.specs.declared.Item.{Item}
-use Rattle.header.specs.declared.Cursor.{Cursor}
 use Rattle.header.specs.declared.Step.{Step}
 use Rattle.header.specs.declared.Step.the-variants.{Found, Ended, Broken}
-use Rattle.header.specs.declared.Pair.{Pair}
 
 -- an id, the length of its items, and their meaning
 pub data Known : Type 0 where

@@ -27,7 +27,12 @@ const MANDATORY: [Pair; 11] = [
 
 // Walks over all items of the header, notes each, and answers the header's length, or 0 where the
 // items break off.
-pub(crate) fn walk(s: &[u8], counts: &mut [usize; 19], sizes: &mut [usize; 19], starts: &mut [usize; 19]) -> usize
+pub(crate) fn walk(
+    s: &[u8],
+    counts: &mut [usize; 19],
+    sizes: &mut [usize; 19],
+    starts: &mut [usize; 19],
+) -> usize
     requires { ⌜ (now counts ≡ none) × (now sizes ≡ none) × (now starts ≡ none) ⌝ }
     ensures { λ r. ⌜ Noted (now (s .entry)) r (now (counts .exit)) (now (sizes .exit)) (now (starts .exit)) ⌝ }
 {

@@ -67,7 +67,10 @@ pub(crate) fn sum_but(s: &[u8], at: usize) -> u32
 pub(crate) fn agree(h: Header, sum: u32, number: u32) -> bool
     ensures { λ r. ⌜ r ≡ valuesAgree h sum number ⌝ }
 {
-    ((h.headersum as u32) == sum) & (h.number == number) & (h.bytes <= (h.body as usize)) & ((h.body as u32) <= h.size)
+    ((h.headersum as u32) == sum)
+        & (h.number == number)
+        & (h.bytes <= (h.body as usize))
+        & ((h.body as u32) <= h.size)
 }
 
 // The sum of all bytes of s modulo 65,536.

@@ -1,3 +1,5 @@
+-- `header::item_bytes` meets its contract: with the items that are left, the last one met is the last of all.
+-- Assumes nothing.
 use mathlib.Core.Path.{_≡_, refl, sym, ap, ap₂, _∙_}
 use mathlib.Core.Bool.{Bool, true, false, cond}
 use mathlib.Core.List.{List}
@@ -5,7 +7,6 @@ use Prim.Native.Nat.{ℕ, _+_, _-_, _≤_}
 use native.Mathlib.Omega.{arith}
 use lib.Dec.{eqb}
 use lib.ListN.{length, take, drop}
-use denote.Ref.{now}
 use borrow.Author.Needs.{needs}
 use borrow.Author.Tests.{eq-eqb, ne-eqb}
 use Rattle.header.specs.declared.Item.{Item}
@@ -17,10 +18,6 @@ use Rattle.header.specs.Data.{dataOf}
 use Rattle.header.proofs.ItemLaws.{items-by, found-by-told}
 use Rattle.header.proofs.item_bytes.Statement.{statement}
 use Rattle.header.proofs.item_bytes.Tie as tie
-use Rattle.header.proofs.item_bytes.Reads as reads
-use Rattle.header.proofs.item_bytes.Lts as lts
-use Rattle.header.proofs.Cursor.first.Reads as first-reads
-use Rattle.header.proofs.Cursor.step.Reads as step-reads
 
 abbrev Start : Item → ℕ
 Start i = i .start
@@ -40,7 +37,8 @@ before-all s id at e = rw e (record { started = refl; sized = refl; within = ome
 module _ (s : List ℕ) (id at start size : ℕ) (sofar : SoFar s id at start size) where
   -- one item more: with the id, and with another
   module _ (r : Step) (i : Item) (c : Cursor) (told : r ≡ Found i c) (stepped : r ≡ stepAt s at) where
-    last-more : (f : Item → ℕ) (d : ℕ) (b : Bool) → eqb (i .id) id ≡ b → lastOf f (cond b (f i) d) id (itemsFrom s (c .at)) ≡ lastOf f d id (itemsFrom s at)
+    last-more : (f : Item → ℕ) (d : ℕ) (b : Bool) → eqb (i .id) id ≡ b
+        → lastOf f (cond b (f i) d) id (itemsFrom s (c .at)) ≡ lastOf f d id (itemsFrom s at)
     last-more f d b e =
         ap (λ (x : Bool). lastOf f (cond x (f i) d) id (itemsFrom s (c .at))) (sym e) ∙ ap (lastOf f d id) (sym (items-by s at told stepped))
 
@@ -60,7 +58,8 @@ module _ (s : List ℕ) (id at start size : ℕ) (sofar : SoFar s id at start si
         record { started = last-more Start start false b ∙ sofar .started; sized = last-more Size size false b ∙ sofar .sized; within = sofar .within }
 
   -- where no item is left
-  part : (rest : Items) → itemsFrom s at ≡ rest → ((f : Item → ℕ) (d : ℕ) → lastOf f d id rest ≡ d) → take (start + size - start) (drop start s) ≡ dataOf id s
+  part : (rest : Items) → itemsFrom s at ≡ rest → ((f : Item → ℕ) (d : ℕ) → lastOf f d id rest ≡ d)
+      → take (start + size - start) (drop start s) ≡ dataOf id s
   unfolding dataOf
   part rest here last =
       let n : start + size - start ≡ size = omega arith in
@@ -74,95 +73,75 @@ Inv-loop s id start₀ size₀ cursor₀ start size cursor = SoFar s id (cursor 
 abbrev μ-loop : tie.MeasureT-loop
 μ-loop s id start₀ size₀ cursor₀ start size cursor = length s - cursor .at
 
--- src/lib.rt:201:9
 first-requires : tie.Need-first-requires Inv-loop μ-loop
 first-requires c κs = search needs
 
--- src/lib.rt:202:5
 loop-holds : tie.Need-loop-holds Inv-loop μ-loop
 loop-holds c = before-all _ _ _ (c .first .ensures)
 
--- src/lib.rt:203:15
 step-requires : tie.Need-step-requires Inv-loop μ-loop
 step-requires c κs = search needs
 
--- src/lib.rt:204:25
 enum-known-item : tie.Need-enum-known-item Inv-loop μ-loop
 enum-known-item c = search needs
 
--- src/lib.rt:202:5
 loop-less : tie.Need-loop-less Inv-loop μ-loop
 loop-less c =
     let i = c .before .before .before in
     let x = found-by-told _ _ (i .item .given .1) (i .before .before .step .ensures) in
     omega (arith, x .next, x .within)
 
--- src/lib.rt:202:5
 loop-again : tie.Need-loop-again Inv-loop μ-loop
 loop-again c =
     let i = c .before .before .before in
     taken _ _ _ _ _ (i .before .before .before .loop .inv) _ _ _ (i .item .given .1) (i .before .before .step .ensures) (c .if1 .taken)
 
--- src/lib.rt:202:5
 loop-less-2 : tie.Need-loop-less-2 Inv-loop μ-loop
 loop-less-2 c =
     let i = c .before .before .before in
     let x = found-by-told _ _ (i .item .given .1) (i .before .before .step .ensures) in
     omega (arith, x .next, x .within)
 
--- src/lib.rt:202:5
 loop-again-2 : tie.Need-loop-again-2 Inv-loop μ-loop
 loop-again-2 c =
     let i = c .before .before .before in
     passed _ _ _ _ _ (i .before .before .before .loop .inv) _ _ _ (i .item .given .1) (i .before .before .step .ensures) (c .if1 .left)
 
--- src/lib.rt:212:27
 enum-told : tie.Need-enum-told Inv-loop μ-loop
 enum-told c = search needs
 
--- src/lib.rt:212:27
 add-end : tie.Need-add-end Inv-loop μ-loop
 add-end c = omega (arith, c .before .before .before .loop .inv .within)
 
--- src/lib.rt:213:24
 sub-result : tie.Need-sub-result Inv-loop μ-loop
 sub-result c = omega (arith, c .before .before .before .loop .inv .within)
 
--- src/lib.rt:213:24
 part-result-start : tie.Need-part-result-start Inv-loop μ-loop
 part-result-start c = omega arith
 
--- src/lib.rt:213:24
 part-result-end : tie.Need-part-result-end Inv-loop μ-loop
 part-result-end c = c .before .before .before .loop .inv .within
 
--- src/lib.rt:213:17
 returns : tie.Need-returns Inv-loop μ-loop
 returns c =
     let e = c .before in
     part _ _ _ _ _ (e .before .before .before .loop .inv) _ (items-by _ _ (e .enum-told .given .1) (e .before .before .step .ensures)) (λ f d. refl)
 
--- src/lib.rt:216:27
 enum-told-2 : tie.Need-enum-told-2 Inv-loop μ-loop
 enum-told-2 c = search needs
 
--- src/lib.rt:216:27
 add-end-2 : tie.Need-add-end-2 Inv-loop μ-loop
 add-end-2 c = omega (arith, c .before .before .before .loop .inv .within)
 
--- src/lib.rt:217:24
 sub-result-2 : tie.Need-sub-result-2 Inv-loop μ-loop
 sub-result-2 c = omega (arith, c .before .before .before .loop .inv .within)
 
--- src/lib.rt:217:24
 part-result-start-2 : tie.Need-part-result-start-2 Inv-loop μ-loop
 part-result-start-2 c = omega arith
 
--- src/lib.rt:217:24
 part-result-end-2 : tie.Need-part-result-end-2 Inv-loop μ-loop
 part-result-end-2 c = c .before .before .before .loop .inv .within
 
--- src/lib.rt:217:17
 returns-2 : tie.Need-returns-2 Inv-loop μ-loop
 returns-2 c =
     let e = c .before in

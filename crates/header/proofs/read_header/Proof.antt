@@ -1,10 +1,12 @@
+-- `header::read_header` meets its contract: one test of the rules fails at each refusal, and all hold at the end.
+-- Assumes nothing.
 use mathlib.Core.Path.{_≡_, sym, ap, ap₂, _∙_}
 use mathlib.Core.Bool.{Bool, true, false, _&&_, and-false}
 use mathlib.Core.List.{List}
 use Prim.Native.Nat.{ℕ, _≤_, _<_}
 use native.Mathlib.Omega.{arith}
 use lib.Dec.{leb}
-use lib.ListN.{length, getD, take}
+use lib.ListN.{getD}
 use lib.Seq.{length-take-le}
 use denote.Ref.{now}
 use borrow.Author.Needs.{needs}
@@ -12,20 +14,12 @@ use borrow.Author.Tests.{le-leb, lt-leb, not-true, not-false}
 use Rattle.reason.specs.Answer.{accepted}
 use Rattle.header.specs.declared.Header.{Header}
 use Rattle.header.specs.Items.{items, countOf}
-use Rattle.header.specs.Header.{beginsRight, headerLength, mandatory, every, once, headerSum, valuesAgree, headerOf, keepsRules, readHeader}
+use Rattle.header.specs.Header.{beginsRight, headerLength, mandatory, every, once, headerSum, valuesAgree, headerOf, keepsRules}
 use Rattle.header.specs.Notes.{Noted, onceNoted}
 use Rattle.header.proofs.NoteLaws.{once-by-notes, values-by-notes, sum-by-notes, in-header, sum-in-header}
 use Rattle.header.proofs.HeaderLaws.{reads-8, reads-header}
 use Rattle.header.proofs.read_header.Statement.{statement}
 use Rattle.header.proofs.read_header.Tie as tie
-use Rattle.header.proofs.read_header.Reads as reads
-use Rattle.header.proofs.read_header.Lts as lts
-use Rattle.header.proofs.notes.all_once.Reads as all-once-reads
-use Rattle.header.proofs.notes.walk.Reads as walk-reads
-use Rattle.header.proofs.values.agree.Reads as agree-reads
-use Rattle.header.proofs.values.begins.Reads as begins-reads
-use Rattle.header.proofs.values.sum_but.Reads as sum-but-reads
-use Rattle.header.proofs.values.values.Reads as values-reads
 
 -- the five tests of the rules: one that fails, and all that hold
 no-1 : (a b c d e : Bool) → a ≡ false → (a && b && c && d && e) ≡ false
@@ -89,7 +83,8 @@ module _ (s : List ℕ) (number : ℕ) where
       unfolding keepsRules
       not-agreed e = no-5 Begins Ends Once Upload Agree (agrees ∙ e)
 
-      kept : Begins ≡ true → 0 < end → every (onceNoted counts sizes) mandatory ≡ true → getD counts 0x12 0 ≤ 1 → r ≡ true → keepsRules s number ≡ true
+      kept : Begins ≡ true → 0 < end → every (onceNoted counts sizes) mandatory ≡ true → getD counts 0x12 0 ≤ 1 → r ≡ true
+          → keepsRules s number ≡ true
       unfolding keepsRules
       kept b e o u a =
           all-5 Begins Ends Once Upload Agree b
@@ -112,45 +107,36 @@ ended c = omega (arith, c .before .before .before .before .before .if2 .left)
 listed : (c : tie.Else4) → c .before .before .all-once .result ≡ true
 listed c = not-false _ (c .before .if3 .left)
 
--- src/lib.rt:228:9
 begins-requires : tie.Need-begins-requires
 begins-requires c κs = search needs
 
--- src/lib.rt:229:9
 returns : tie.Need-returns
 returns c = let a = c .before .before .before .args in sym (reads-8 (now (a .s)) (a .number) (not-begun _ _ (sym (c .before .begins .ensures) ∙ not-true _ (c .if1 .taken))))
 
--- src/lib.rt:234:9
 walk-requires : tie.Need-walk-requires
 walk-requires c κs = search needs
 
--- src/lib.rt:236:9
 returns-2 : tie.Need-returns-2
 returns-2 c = let a = W (c .before) .args in sym (reads-8 (now (a .s)) (a .number) (not-ended _ _ _ _ _ _ (c .before .walk .ensures) (c .if2 .taken)))
 
--- src/lib.rt:238:9
 all-once-requires : tie.Need-all-once-requires
 all-once-requires c κs = search needs
 
--- src/lib.rt:239:9
 returns-3 : tie.Need-returns-3
 returns-3 c =
     let w = c .before .before .before .before .before in
     let a = W w .args in
     sym (reads-8 (now (a .s)) (a .number) (not-once _ _ _ _ _ _ (w .walk .ensures) (sym (c .before .all-once .ensures) ∙ not-true _ (c .if3 .taken))))
 
--- src/lib.rt:241:12
 array-read-if4 : tie.Need-array-read-if4
 array-read-if4 c = search needs
 
--- src/lib.rt:242:9
 returns-4 : tie.Need-returns-4
 returns-4 c =
     let w = c .before .before .before .before .before .before in
     let a = W w .args in
     sym (reads-8 (now (a .s)) (a .number) (twice _ _ _ _ _ _ (w .walk .ensures) (c .if4 .taken)))
 
--- src/lib.rt:244:9
 values-requires : tie.Need-values-requires
 values-requires c κs =
     let e = c .before .before .before .before .before .before .before in
@@ -158,15 +144,12 @@ values-requires c κs =
     let z : 0 < e .before .walk .result = omega (arith, e .if2 .left) in
     (in-header _ _ _ _ _ n z 0x02 (omega arith), in-header _ _ _ _ _ n z 0x03 (omega arith))
 
--- src/lib.rt:245:31
 slice-aggregate-sum-but : tie.Need-slice-aggregate-sum-but
 slice-aggregate-sum-but c = sym (length-take-le _ _ (c .before .before .before .before .before .before .before .before .before .before .walk .ensures .inside))
 
--- src/lib.rt:245:42
 array-read-sum-but : tie.Need-array-read-sum-but
 array-read-sum-but c = search needs
 
--- src/lib.rt:245:9
 sum-but-requires : tie.Need-sum-but-requires
 sum-but-requires c κs =
     let e = c .before .before .before .before in
@@ -175,11 +158,9 @@ sum-but-requires c κs =
     let a = e .before .before in
     omega (arith, long, sum-in-header _ _ _ _ _ (w .walk .ensures) (ended e) (sym (a .all-once .ensures) ∙ listed e))
 
--- src/lib.rt:246:9
 agree-requires : tie.Need-agree-requires
 agree-requires c κs = search needs
 
--- src/lib.rt:247:9
 returns-5 : tie.Need-returns-5
 returns-5 c =
     let b = c .before .before in
@@ -190,7 +171,6 @@ returns-5 c =
     let summed = b .sum-but .ensures ∙ sum-by-notes _ _ _ _ _ n in
     sym (reads-8 (now (a .s)) (a .number) (not-agreed _ _ _ _ _ _ n _ _ valued summed _ (c .before .agree .ensures) (not-true _ (c .if5 .taken))))
 
--- src/lib.rt:225:1
 returns-6 : tie.Need-returns-6
 returns-6 c =
     let b = c .before .before in

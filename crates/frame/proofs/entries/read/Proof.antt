@@ -1,15 +1,17 @@
-use mathlib.Core.Path.{_≡_, sym, ap, ap₂, _∙_}
+-- `frame::entries::read` meets its contract: each return is one of the laws of an entry, in the order of its reasons.
+-- Assumes nothing.
+use mathlib.Core.Path.{_≡_, sym, ap, _∙_}
 use mathlib.Core.Bool.{Bool, true, false, _&&_, and-false}
 use mathlib.Core.List.{List}
 use Prim.Native.Nat.{ℕ, _-_, _≤_}
 use native.Mathlib.Omega.{arith}
 use lib.Dec.{eqb}
-use lib.ListN.{length, take, drop, length-drop}
+use lib.ListN.{length, drop, length-drop}
 use lib.Seq.{length-take-le}
 use denote.Ref.{now}
 use borrow.Author.Tests.{eq-eqb, ne-eqb, not-true, not-false}
 use borrow.Author.Needs.{needs}
-use Rattle.reason.specs.Answer.{accepted, refused}
+use Rattle.reason.specs.Answer.{accepted}
 use Rattle.reason.proofs.Bools.{and-both}
 use Rattle.octets.specs.Numbers.{byteAt, numberAt}
 use Rattle.remainder.specs.Check.{checkRight}
@@ -24,13 +26,6 @@ use Rattle.frame.specs.Entry.{flagsAllowed, headerWhole, headerPart, hea
 use Rattle.frame.proofs.EntryLaws.{reads-1, reads-6, reads-5, reads-14, reads-8, reads-entry}
 use Rattle.frame.proofs.entries.read.Statement.{statement}
 use Rattle.frame.proofs.entries.read.Tie as tie
-use Rattle.frame.proofs.entries.read.Reads as reads
-use Rattle.frame.proofs.entries.read.Lts as lts
-use Rattle.frame.proofs.entries.flags_allowed.Reads as flags-allowed-reads
-use Rattle.frame.proofs.entries.header_whole.Reads as header-whole-reads
-use Rattle.header.proofs.read_header.Reads as read-header-reads
-use Rattle.octets.proofs.number4.Reads as number4-reads
-use Rattle.remainder.proofs.check_right.Reads as check-right-reads
 
 -- what reading the header part says: refused; of another length than the part; and all of the part
 module _ (s : List ℕ) (long : 19 ≤ length s) (number : ℕ) (named : number ≡ numberAt 4 s 1) (r : HeaderRead) (read : headerAnswer r ≡ readHeader (headerPart s) number) where
@@ -62,7 +57,8 @@ module _ (s : List ℕ) (long : 19 ≤ length s) (number : ℕ) (named : number 
         and-both (keepsRules (headerPart s) (numberAt 4 s 1)) (eqb (headerLength (headerPart s)) (length (headerPart s))) kept
         (eq-eqb (headerLength (headerPart s)) (length (headerPart s)) (sym bytes ∙ e ∙ sym part-long))
 
-fields : (head : Head) (s : List ℕ) (number offset old new : ℕ) (h : Header) → number ≡ numberAt 4 s 1 → offset ≡ numberAt 4 s 5 → old ≡ numberAt 4 s 9
+fields : (head : Head) (s : List ℕ) (number offset old new : ℕ) (h : Header) → number ≡ numberAt 4 s 1 → offset ≡ numberAt 4 s 5
+    → old ≡ numberAt 4 s 9
     → new ≡ numberAt 4 s 13 → h ≡ headerOf (headerPart s)
     → _≡_ {A = Entry} (record { head = head; flags = byteAt s 0; number = number; offset = offset; old = old; new = new; header = h }) (entryFields head s)
 unfolding entryFields
@@ -94,86 +90,66 @@ K c = J (c .before .before)
 whole : (c : tie.Else4) → let s = now (E (K c) .args .s) in headerWhole (byteAt s 0) (numberAt 4 s 5) ≡ true
 whole c = sym (judged (c .before .before)) ∙ not-false _ (c .if4 .left)
 
--- src/entries.rt:16:9
 returns : tie.Need-returns
 returns c = sym (reads-1 (now (c .before .before .args .s)) _ (c .if1 .taken))
 
--- src/entries.rt:18:9
 check-right-requires : tie.Need-check-right-requires
 check-right-requires c κs = search needs
 
--- src/entries.rt:19:9
 returns-2 : tie.Need-returns-2
 returns-2 c = let e = c .before .before .before .before in sym (reads-6 (now (e .args .s)) _ (c .before .before .if1 .left) (sym (c .before .check-right .ensures) ∙ not-true _ (c .if2 .taken)))
 
--- src/entries.rt:21:17
 shared-slice-read-flags : tie.Need-shared-slice-read-flags
 shared-slice-read-flags c = search needs
 
--- src/entries.rt:22:9
 number4-requires : tie.Need-number4-requires
 number4-requires c κs = search needs
 
--- src/entries.rt:23:9
 flags-allowed-requires : tie.Need-flags-allowed-requires
 flags-allowed-requires c κs = search needs
 
--- src/entries.rt:24:9
 header-whole-requires : tie.Need-header-whole-requires
 header-whole-requires c κs = search needs
 
--- src/entries.rt:26:9
 returns-3 : tie.Need-returns-3
 returns-3 c = let k = J (c .before) in sym (reads-5 (now (E k .args .s)) _ (long k) (right k) (sym (c .before .before .flags-allowed .ensures) ∙ not-true _ (c .if3 .taken)))
 
--- src/entries.rt:29:9
 returns-4 : tie.Need-returns-4
 returns-4 c =
     let h = c .before .before in
     let k = J h in
     sym (reads-14 (now (E k .args .s)) _ (long k) (right k) (flagged (c .before)) (sym (judged h) ∙ not-true _ (c .if4 .taken)))
 
--- src/entries.rt:31:9
 number4-requires-2 : tie.Need-number4-requires-2
 number4-requires-2 c κs = search needs
 
--- src/entries.rt:32:9
 number4-requires-3 : tie.Need-number4-requires-3
 number4-requires-3 c κs = search needs
 
--- src/entries.rt:33:9
 number4-requires-4 : tie.Need-number4-requires-4
 number4-requires-4 c κs = search needs
 
--- src/entries.rt:34:15
 sub-end : tie.Need-sub-end
 sub-end c = search needs
 
--- src/entries.rt:35:60
 sub-read-header : tie.Need-sub-read-header
 sub-read-header c = search needs
 
--- src/entries.rt:35:60
 part-read-header-start : tie.Need-part-read-header-start
 part-read-header-start c = search needs
 
--- src/entries.rt:35:60
 part-read-header-end : tie.Need-part-read-header-end
 part-read-header-end c = search needs
 
--- src/entries.rt:35:40
 read-header-requires : tie.Need-read-header-requires
 read-header-requires c κs = search needs
 
--- src/entries.rt:35:30
 enum-known-header : tie.Need-enum-known-header
 enum-known-header c = search needs
 
--- src/entries.rt:36:9
 enum-told : tie.Need-enum-told
 enum-told c = search needs
 
--- src/entries.rt:36:9
 returns-5 : tie.Need-returns-5
 returns-5 c =
     let r = c .before .before in
@@ -183,11 +159,9 @@ returns-5 c =
     let s = now (E k .args .s) in
     sym (reads-8 s _ (long k) (right k) (flagged (f .before)) (whole f) (not-header s (long k) _ (n .number42 .ensures) _ (r .read-header .ensures) _ (c .enum-told .given .1)))
 
--- src/entries.rt:38:24
 sub-if5 : tie.Need-sub-if5
 sub-if5 c = omega (arith, long (K (c .before .before .before .before .before .before .before .before)))
 
--- src/entries.rt:39:9
 returns-6 : tie.Need-returns-6
 returns-6 c =
     let h = c .before .before .before in
@@ -198,7 +172,6 @@ returns-6 c =
     let s = now (E k .args .s) in
     sym (reads-8 s _ (long k) (right k) (flagged (f .before)) (whole f) (followed s (long k) _ (n .number42 .ensures) _ (r .read-header .ensures) _ (h .header .given .1) (c .if5 .taken)))
 
--- src/entries.rt:12:1
 returns-7 : tie.Need-returns-7
 returns-7 c =
     let h = c .before .before .before in

@@ -1,4 +1,6 @@
-use mathlib.Core.Path.{_≡_, sym, ap, _∙_}
+-- `frame::pieces::between` meets its contract: the part ends two bytes before the frame does.
+-- Assumes nothing.
+use mathlib.Core.Path.{_≡_, sym, ap}
 use mathlib.Core.List.{List, []}
 use Prim.Native.Nat.{ℕ, _-_, _<_}
 use native.Mathlib.Omega.{arith}
@@ -8,8 +10,6 @@ use borrow.Author.Needs.{needs}
 use Rattle.frame.specs.Piece.{pieceData}
 use Rattle.frame.proofs.pieces.between.Statement.{statement}
 use Rattle.frame.proofs.pieces.between.Tie as tie
-use Rattle.frame.proofs.pieces.between.Reads as reads
-use Rattle.frame.proofs.pieces.between.Lts as lts
 
 none : (f : List ℕ) → length f < 27 → [] ≡ pieceData f
 none f h = let z : length f - 27 ≡ 0 = omega arith in sym (ap (λ (n : ℕ). take n (drop 25 f)) z)
@@ -17,39 +17,30 @@ none f h = let z : length f - 27 ≡ 0 = omega arith in sym (ap (λ (n : ℕ). t
 some : (f : List ℕ) → take (length f - 2 - 25) (drop 25 f) ≡ pieceData f
 some f = let z : length f - 2 - 25 ≡ length f - 27 = omega arith in ap (λ (n : ℕ). take n (drop 25 f)) z
 
--- src/pieces.rt:41:16
 sub-result : tie.Need-sub-result
 sub-result c = search needs
 
--- src/pieces.rt:41:16
 part-result-start : tie.Need-part-result-start
 part-result-start c = search needs
 
--- src/pieces.rt:41:16
 part-result-end : tie.Need-part-result-end
 part-result-end c = search needs
 
--- src/pieces.rt:41:9
 returns : tie.Need-returns
 returns c = none (now (c .before .before .args .frame)) (c .before .if1 .taken)
 
--- src/pieces.rt:43:15
 sub-end : tie.Need-sub-end
 sub-end c = search needs
 
--- src/pieces.rt:44:5
 sub-result-2 : tie.Need-sub-result-2
 sub-result-2 c = search needs
 
--- src/pieces.rt:44:5
 part-result-start-2 : tie.Need-part-result-start-2
 part-result-start-2 c = search needs
 
--- src/pieces.rt:44:5
 part-result-end-2 : tie.Need-part-result-end-2
 part-result-end-2 c = search needs
 
--- src/pieces.rt:37:1
 returns-2 : tie.Need-returns-2
 returns-2 c = some (now (c .before .before .args .frame))
 

@@ -1,3 +1,5 @@
+-- `frame::pieces::read` meets its contract: each return is one of the laws of a piece, in the order of its reasons.
+-- Assumes nothing.
 use mathlib.Core.Path.{_≡_, sym, ap, _∙_}
 use mathlib.Core.Bool.{true}
 use mathlib.Core.List.{List}
@@ -14,11 +16,6 @@ use Rattle.frame.specs.Piece.{pieceFields}
 use Rattle.frame.proofs.PieceLaws.{reads-1, reads-6, reads-5, reads-7, reads-piece}
 use Rattle.frame.proofs.pieces.read.Statement.{statement}
 use Rattle.frame.proofs.pieces.read.Tie as tie
-use Rattle.frame.proofs.pieces.read.Reads as reads
-use Rattle.frame.proofs.pieces.read.Lts as lts
-use Rattle.octets.proofs.number3.Reads as number3-reads
-use Rattle.octets.proofs.number4.Reads as number4-reads
-use Rattle.remainder.proofs.check_right.Reads as check-right-reads
 
 -- the function's entry, from past the check
 abbrev E : tie.Else2 → tie.Start
@@ -32,43 +29,33 @@ fields : (head : Head) (s : List ℕ) (number offset : ℕ) → number ≡ numbe
 unfolding pieceFields
 fields head s number offset x y = rw (x, y)
 
--- src/pieces.rt:14:9
 returns : tie.Need-returns
 returns c = sym (reads-1 (now (c .before .before .args .s)) _ (c .if1 .taken))
 
--- src/pieces.rt:16:9
 check-right-requires : tie.Need-check-right-requires
 check-right-requires c κs = search needs
 
--- src/pieces.rt:17:9
 returns-2 : tie.Need-returns-2
 returns-2 c = let e = c .before .before .before .before in sym (reads-6 (now (e .args .s)) _ (c .before .before .if1 .left) (sym (c .before .check-right .ensures) ∙ not-true _ (c .if2 .taken)))
 
--- src/pieces.rt:19:8
 shared-slice-read-if3 : tie.Need-shared-slice-read-if3
 shared-slice-read-if3 c = search needs
 
--- src/pieces.rt:20:9
 returns-3 : tie.Need-returns-3
 returns-3 c = let k = c .before .before in sym (reads-5 (now (E k .args .s)) _ (k .before .before .if1 .left) (right k) (c .if3 .taken))
 
--- src/pieces.rt:23:9
 returns-4 : tie.Need-returns-4
 returns-4 c = let k = c .before .before .before in sym (reads-7 (now (E k .args .s)) _ (k .before .before .if1 .left) (right k) (c .before .if3 .left) (c .if4 .taken))
 
--- src/pieces.rt:25:9
 number4-requires : tie.Need-number4-requires
 number4-requires c κs = search needs
 
--- src/pieces.rt:26:16
 shared-slice-read-kind : tie.Need-shared-slice-read-kind
 shared-slice-read-kind c = search needs
 
--- src/pieces.rt:27:9
 number3-requires : tie.Need-number3-requires
 number3-requires c κs = search needs
 
--- src/pieces.rt:10:1
 returns-5 : tie.Need-returns-5
 returns-5 c =
     let n = c .before .before in

@@ -1,3 +1,5 @@
+-- `header::notes::all_once` meets its contract: the scan of the code's table, which is the definition's.
+-- Assumes nothing.
 use mathlib.Core.Path.{_≡_, refl, sym, ap, _∙_}
 use mathlib.Core.Bool.{Bool, true, false, _&&_}
 use mathlib.Core.List.{List}
@@ -16,9 +18,6 @@ use Rattle.header.specs.Notes.{onceNoted}
 use Rattle.header.proofs.TableLaws.{below, in-list, eleven}
 use Rattle.header.proofs.notes.all_once.Statement.{statement}
 use Rattle.header.proofs.notes.all_once.Tie as tie
-use Rattle.header.proofs.notes.all_once.Reads as reads
-use Rattle.header.proofs.notes.all_once.Lts as lts
-use Rattle.header.proofs.notes.once.Reads as once-reads
 
 abbrev Inv-loop : tie.InvT-loop
 Inv-loop counts sizes table k₀ k = (k ≤ 11) × (every (onceNoted counts sizes) (drop k mandatory) ≡ every (onceNoted counts sizes) mandatory)
@@ -30,10 +29,12 @@ nothing : Pair
 nothing = record { id = 0; size = 0 }
 
 -- one pair, and the pairs behind it
-scan : (test : Pair → Bool) (ps : List Pair) (k : ℕ) → k < length ps → every test (drop k ps) ≡ (test (getD ps k nothing) && every test (drop (k + 1) ps))
+scan : (test : Pair → Bool) (ps : List Pair) (k : ℕ) → k < length ps
+    → every test (drop k ps) ≡ (test (getD ps k nothing) && every test (drop (k + 1) ps))
 scan test ps k h = rw (add-one, drop-cons ps k nothing)
 
-scanned : (test : Pair → Bool) (ps : List Pair) (k : ℕ) (b : Bool) → k < length ps → test (getD ps k nothing) ≡ b → every test (drop k ps) ≡ every test ps
+scanned : (test : Pair → Bool) (ps : List Pair) (k : ℕ) (b : Bool) → k < length ps → test (getD ps k nothing) ≡ b
+    → every test (drop k ps) ≡ every test ps
     → (b && every test (drop (k + 1) ps)) ≡ every test ps
 scanned test ps k b h e i = sym (ap (λ (x : Bool). x && every test (drop (k + 1) ps)) e) ∙ sym (scan test ps k h) ∙ i
 
@@ -54,44 +55,35 @@ answered : (c : tie.After-once Inv-loop μ-loop)
 unfolding mandatoryItems nothing
 answered c = c .once .ensures
 
--- src/notes.rt:67:5
 loop-holds : tie.Need-loop-holds Inv-loop μ-loop
 loop-holds c = (omega arith, refl)
 
--- src/notes.rt:68:20
 mul-pair : tie.Need-mul-pair Inv-loop μ-loop
 mul-pair c = search needs
 
--- src/notes.rt:68:20
 array-copy-out-pair : tie.Need-array-copy-out-pair Inv-loop μ-loop
 array-copy-out-pair c = search needs
 
--- src/notes.rt:69:13
 once-requires : tie.Need-once-requires Inv-loop μ-loop
 unfolding mandatoryItems nothing
 once-requires c κs = inside (c .before .before .loop .k) (c .before .loop-test .taken)
 
--- src/notes.rt:70:13
 returns : tie.Need-returns Inv-loop μ-loop
 returns c =
     let l = c .before .before .before .before in
     scanned (Test l) mandatory (l .loop .k) false (omega (arith, eleven, c .before .before .before .loop-test .taken)) (sym (answered (c .before)) ∙ not-true _ (c .if1 .taken)) (l .loop .inv .1)
 
--- src/notes.rt:67:9
 add-k : tie.Need-add-k Inv-loop μ-loop
 add-k c = search needs
 
--- src/notes.rt:67:5
 loop-less : tie.Need-loop-less Inv-loop μ-loop
 loop-less c = search needs
 
--- src/notes.rt:67:5
 loop-again : tie.Need-loop-again Inv-loop μ-loop
 loop-again c =
     let l = c .before .before .before .before in
     (omega arith, scanned (Test l) mandatory (l .loop .k) true (omega (arith, eleven, c .before .before .before .loop-test .taken)) (sym (answered (c .before)) ∙ not-false _ (c .if1 .left)) (l .loop .inv .1))
 
--- src/notes.rt:63:1
 returns-2 : tie.Need-returns-2 Inv-loop μ-loop
 returns-2 c = all-done (Test (c .before)) mandatory (c .before .loop .k) (omega (arith, eleven, c .loop-test .left)) (c .before .loop .inv .1)
 

@@ -1,3 +1,5 @@
+-- `header::notes::note` meets its contract: the three notes of the item's id are changed, if it has a place.
+-- Assumes nothing.
 use mathlib.Core.Path.{_≡_}
 use mathlib.Core.List.{List}
 use Prim.Native.Nat.{ℕ, _+_, _≤_, _<_}
@@ -8,8 +10,6 @@ use Rattle.header.specs.Notes.{withMark}
 use borrow.Author.Needs.{needs}
 use Rattle.header.proofs.notes.note.Statement.{statement}
 use Rattle.header.proofs.notes.note.Tie as tie
-use Rattle.header.proofs.notes.note.Reads as reads
-use Rattle.header.proofs.notes.note.Lts as lts
 
 marked : (notes : List ℕ) (id v : ℕ) → id < 19 → set notes id v ≡ withMark notes id v
 marked notes id v h = simp (lt-ltb _ _ h)
@@ -17,50 +17,39 @@ marked notes id v h = simp (lt-ltb _ _ h)
 kept : (notes : List ℕ) (id v : ℕ) → 19 ≤ id → notes ≡ withMark notes id v
 kept notes id v h = simp (le-ltb _ _ h)
 
--- src/notes.rt:56:14
 cast-id : tie.Need-cast-id
 cast-id c = search needs
 
--- src/notes.rt:58:9
 mul-counts : tie.Need-mul-counts
 mul-counts c = search needs
 
--- src/notes.rt:58:9
 element-copy-out-counts : tie.Need-element-copy-out-counts
 element-copy-out-counts c = search needs
 
--- src/notes.rt:58:9
 add-counts : tie.Need-add-counts
 add-counts c = search needs
 
--- src/notes.rt:58:9
 element-write-counts : tie.Need-element-write-counts
 element-write-counts c = search needs
 
--- src/notes.rt:59:9
 mul-sizes : tie.Need-mul-sizes
 mul-sizes c = search needs
 
--- src/notes.rt:59:9
 element-write-sizes : tie.Need-element-write-sizes
 element-write-sizes c = search needs
 
--- src/notes.rt:60:9
 mul-starts : tie.Need-mul-starts
 mul-starts c = search needs
 
--- src/notes.rt:60:9
 element-write-starts : tie.Need-element-write-starts
 element-write-starts c = search needs
 
--- src/notes.rt:50:1
 returns : tie.Need-returns
 returns c =
     let a = c .before .before .before .args in
     let h = c .before .if1 .taken in
     (marked (now (a .counts)) (a .item .id) (getD (now (a .counts)) (a .item .id) 0 + 1) h, (marked (now (a .sizes)) (a .item .id) (a .item .size) h, marked (now (a .starts)) (a .item .id) (a .item .start) h))
 
--- src/notes.rt:50:1
 returns-2 : tie.Need-returns-2
 returns-2 c = (kept _ _ _ (c .if1 .left), (kept _ _ _ (c .if1 .left), kept _ _ _ (c .if1 .left)))
 

@@ -1,71 +1,54 @@
+-- `header::values::name_at` meets its contract: each byte is the definition's.
+-- Assumes nothing.
 use borrow.Author.Needs.{needs}
 use Rattle.header.proofs.values.name_at.Statement.{statement}
 use Rattle.header.proofs.values.name_at.Tie as tie
-use Rattle.header.proofs.values.name_at.Reads as reads
-use Rattle.header.proofs.values.name_at.Lts as lts
-use Rattle.octets.proofs.byte.Reads as byte-reads
 
--- src/values.rt:98:13
 byte-requires : tie.Need-byte-requires
 byte-requires c κs = search needs
 
--- src/values.rt:99:29
 add-byte : tie.Need-add-byte
 add-byte c = search needs
 
--- src/values.rt:99:13
 byte-requires-2 : tie.Need-byte-requires-2
 byte-requires-2 c κs = search needs
 
--- src/values.rt:100:29
 add-byte-2 : tie.Need-add-byte-2
 add-byte-2 c = search needs
 
--- src/values.rt:100:13
 byte-requires-3 : tie.Need-byte-requires-3
 byte-requires-3 c κs = search needs
 
--- src/values.rt:101:29
 add-byte-3 : tie.Need-add-byte-3
 add-byte-3 c = search needs
 
--- src/values.rt:101:13
 byte-requires-4 : tie.Need-byte-requires-4
 byte-requires-4 c κs = search needs
 
--- src/values.rt:102:29
 add-byte-4 : tie.Need-add-byte-4
 add-byte-4 c = search needs
 
--- src/values.rt:102:13
 byte-requires-5 : tie.Need-byte-requires-5
 byte-requires-5 c κs = search needs
 
--- src/values.rt:103:29
 add-byte-5 : tie.Need-add-byte-5
 add-byte-5 c = search needs
 
--- src/values.rt:103:13
 byte-requires-6 : tie.Need-byte-requires-6
 byte-requires-6 c κs = search needs
 
--- src/values.rt:104:29
 add-byte-6 : tie.Need-add-byte-6
 add-byte-6 c = search needs
 
--- src/values.rt:104:13
 byte-requires-7 : tie.Need-byte-requires-7
 byte-requires-7 c κs = search needs
 
--- src/values.rt:105:29
 add-byte-7 : tie.Need-add-byte-7
 add-byte-7 c = search needs
 
--- src/values.rt:105:13
 byte-requires-8 : tie.Need-byte-requires-8
 byte-requires-8 c κs = search needs
 
--- src/values.rt:93:1
 returns : tie.Need-returns
 returns c = cc
 

@@ -1,3 +1,5 @@
+-- `header::values::sum` meets its contract: the sum so far and the sum of what is left are the sum of all.
+-- Assumes nothing.
 use mathlib.Core.Path.{_≡_, ap}
 use mathlib.Core.List.{List}
 use Prim.Native.Nat.{ℕ, _+_, _-_, _%_, _≤_, _<_}
@@ -11,9 +13,6 @@ use borrow.Author.Needs.{needs}
 use Rattle.header.specs.Header.{sumOf}
 use Rattle.header.proofs.values.sum.Statement.{statement}
 use Rattle.header.proofs.values.sum.Tie as tie
-use Rattle.header.proofs.values.sum.Reads as reads
-use Rattle.header.proofs.values.sum.Lts as lts
-use Rattle.header.proofs.values.wide.Reads as wide-reads
 
 abbrev Inv-loop : tie.InvT-loop
 Inv-loop s sum₀ i₀ sum i = (i ≤ length s) × (sum < 65536) × ((sum + sumOf (drop i s)) % 65536 ≡ sumOf s % 65536)
@@ -28,31 +27,24 @@ turn s i h = rw (add-one, drop-cons s i 0)
 done : (s : List ℕ) (i : ℕ) → length s ≤ i → sumOf (drop i s) ≡ 0
 done s i h = ap sumOf (drop-of-length-le s h)
 
--- src/values.rt:79:5
 loop-holds : tie.Need-loop-holds Inv-loop μ-loop
 loop-holds c = (search needs, omega arith, ap (λ (n : ℕ). n % 65536) (zero-add _))
 
--- src/values.rt:80:27
 shared-slice-read-wide : tie.Need-shared-slice-read-wide Inv-loop μ-loop
 shared-slice-read-wide c = search needs
 
--- src/values.rt:80:22
 wide-requires : tie.Need-wide-requires Inv-loop μ-loop
 wide-requires c κs = search needs
 
--- src/values.rt:80:16
 add-sum : tie.Need-add-sum Inv-loop μ-loop
 add-sum c = search needs
 
--- src/values.rt:81:9
 add-i : tie.Need-add-i Inv-loop μ-loop
 add-i c = search needs
 
--- src/values.rt:79:5
 loop-less : tie.Need-loop-less Inv-loop μ-loop
 loop-less c = search needs
 
--- src/values.rt:79:5
 loop-again : tie.Need-loop-again Inv-loop μ-loop
 loop-again c =
     let i = c .before .before .before .loop .i in
@@ -60,7 +52,6 @@ loop-again c =
     let w = c .wide .ensures .0 in
     (omega arith, omega arith, omega arith)
 
--- src/values.rt:74:1
 returns : tie.Need-returns Inv-loop μ-loop
 returns c =
     let e = done (now (c .before .before .before .args .s)) (c .before .loop .i) (c .loop-test .left) in

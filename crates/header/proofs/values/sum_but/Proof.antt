@@ -1,6 +1,8 @@
-use mathlib.Core.Path.{_≡_, refl, sym, ap, ap₂, _∙_}
+-- `header::values::sum_but` meets its contract: two zeros between the two parts add nothing.
+-- Assumes nothing.
+use mathlib.Core.Path.{_≡_, sym, ap, _∙_}
 use mathlib.Core.List.{List, [], _∷_, _++_}
-use Prim.Native.Nat.{ℕ, _+_, _-_, _%_, _≤_}
+use Prim.Native.Nat.{ℕ, _+_, _-_, _%_}
 use native.Mathlib.Nat.{zero-add, add-assoc}
 use native.Mathlib.Omega.{arith}
 use lib.ListN.{length, take, drop, length-drop}
@@ -11,9 +13,6 @@ use Rattle.octets.specs.Runs.{putIn}
 use Rattle.header.specs.Header.{sumOf}
 use Rattle.header.proofs.values.sum_but.Statement.{statement}
 use Rattle.header.proofs.values.sum_but.Tie as tie
-use Rattle.header.proofs.values.sum_but.Reads as reads
-use Rattle.header.proofs.values.sum_but.Lts as lts
-use Rattle.header.proofs.values.sum.Reads as sum-reads
 
 -- the sum of one list behind another
 sum-both : (s t : List ℕ) → sumOf (s ++ t) ≡ sumOf s + sumOf t
@@ -35,39 +34,30 @@ total s at a b x y =
     let e = sums s at in
     omega arith
 
--- src/values.rt:61:18
 add-behind : tie.Need-add-behind
 add-behind c = search needs
 
--- src/values.rt:62:10
 slice-aggregate-sum : tie.Need-slice-aggregate-sum
 slice-aggregate-sum c = sym (length-take-le _ _ (omega arith))
 
--- src/values.rt:62:6
 sum-requires : tie.Need-sum-requires
 sum-requires c κs = search needs
 
--- src/values.rt:62:26
 sub-sum : tie.Need-sub-sum
 sub-sum c = search needs
 
--- src/values.rt:62:26
 part-sum-start : tie.Need-part-sum-start
 part-sum-start c = search needs
 
--- src/values.rt:62:26
 part-sum-end : tie.Need-part-sum-end
 part-sum-end c = search needs
 
--- src/values.rt:62:22
 sum-requires-2 : tie.Need-sum-requires-2
 sum-requires-2 c κs = search needs
 
--- src/values.rt:62:6
 add-result : tie.Need-add-result
 add-result c = search needs
 
--- src/values.rt:57:1
 returns : tie.Need-returns
 returns c = total (now (c .before .before .before .before .before .args .s)) (c .before .before .before .before .before .args .at) _ _ (c .before .before .sum .ensures) (c .sum2 .ensures)
 

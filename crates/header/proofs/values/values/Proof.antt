@@ -1,3 +1,5 @@
+-- `header::values::values` meets its contract: each value is read where the notes say.
+-- Assumes nothing.
 use mathlib.Core.Path.{_≡_}
 use mathlib.Core.List.{List}
 use Prim.Native.Nat.{ℕ}
@@ -13,14 +15,6 @@ use Rattle.header.specs.Header.{nameAt, extensionAt}
 use Rattle.header.specs.Notes.{uploadNoted, valuesNoted}
 use Rattle.header.proofs.values.values.Statement.{statement}
 use Rattle.header.proofs.values.values.Tie as tie
-use Rattle.header.proofs.values.values.Reads as reads
-use Rattle.header.proofs.values.values.Lts as lts
-use Rattle.header.proofs.values.extension_at.Reads as extension-at-reads
-use Rattle.header.proofs.values.name_at.Reads as name-at-reads
-use Rattle.header.proofs.values.upload_at.Reads as upload-at-reads
-use Rattle.octets.proofs.byte.Reads as byte-reads
-use Rattle.octets.proofs.number2.Reads as number2-reads
-use Rattle.octets.proofs.number4.Reads as number4-reads
 
 made : (s : List ℕ) (end : ℕ) (counts starts : List ℕ) (number : ℕ) (name : Name) (extension : Extension) (size : ℕ) (created : ℕ) (modified : ℕ) (upset : ℕ) (kind : ℕ) (bodysum : ℕ) (headersum : ℕ) (body : ℕ) (upload : Upload)
     → number ≡ numberAt 4 s (getD starts 0x01 0)
@@ -38,107 +32,81 @@ made : (s : List ℕ) (end : ℕ) (counts starts : List ℕ) (number : ℕ) (nam
     → _≡_ {A = Header} (record { number = number; name = name; extension = extension; size = size; created = created; modified = modified; upset = upset; kind = kind; bodysum = bodysum; headersum = headersum; body = body; upload = upload; bytes = end }) (valuesNoted s end counts starts)
 made s end counts starts number name extension size created modified upset kind bodysum headersum body upload e1 e2 e3 e4 e5 e6 e7 e8 e9 e10 e11 e12 = rw (e1, e2, e3, e4, e5, e6, e7, e8, e9, e10, e11, e12)
 
--- src/values.rt:27:37
 element-copy-out-number4 : tie.Need-element-copy-out-number4
 element-copy-out-number4 c = search needs
 
--- src/values.rt:27:9
 number4-requires : tie.Need-number4-requires
 number4-requires c κs = search needs
 
--- src/values.rt:28:27
 element-copy-out-name-at : tie.Need-element-copy-out-name-at
 element-copy-out-name-at c = search needs
 
--- src/values.rt:28:9
 name-at-requires : tie.Need-name-at-requires
 name-at-requires c κs = search needs
 
--- src/values.rt:29:37
 element-copy-out-extension-at : tie.Need-element-copy-out-extension-at
 element-copy-out-extension-at c = search needs
 
--- src/values.rt:29:9
 extension-at-requires : tie.Need-extension-at-requires
 extension-at-requires c κs = search needs
 
--- src/values.rt:30:35
 element-copy-out-number4-2 : tie.Need-element-copy-out-number4-2
 element-copy-out-number4-2 c = search needs
 
--- src/values.rt:30:9
 number4-requires-2 : tie.Need-number4-requires-2
 number4-requires-2 c κs = search needs
 
--- src/values.rt:31:38
 element-copy-out-number4-3 : tie.Need-element-copy-out-number4-3
 element-copy-out-number4-3 c = search needs
 
--- src/values.rt:31:9
 number4-requires-3 : tie.Need-number4-requires-3
 number4-requires-3 c κs = search needs
 
--- src/values.rt:32:39
 element-copy-out-number4-4 : tie.Need-element-copy-out-number4-4
 element-copy-out-number4-4 c = search needs
 
--- src/values.rt:32:9
 number4-requires-4 : tie.Need-number4-requires-4
 number4-requires-4 c κs = search needs
 
--- src/values.rt:33:33
 element-copy-out-byte : tie.Need-element-copy-out-byte
 element-copy-out-byte c = search needs
 
--- src/values.rt:33:9
 byte-requires : tie.Need-byte-requires
 byte-requires c κs = search needs
 
--- src/values.rt:34:32
 element-copy-out-byte-2 : tie.Need-element-copy-out-byte-2
 element-copy-out-byte-2 c = search needs
 
--- src/values.rt:34:9
 byte-requires-2 : tie.Need-byte-requires-2
 byte-requires-2 c κs = search needs
 
--- src/values.rt:35:38
 element-copy-out-number2 : tie.Need-element-copy-out-number2
 element-copy-out-number2 c = search needs
 
--- src/values.rt:35:9
 number2-requires : tie.Need-number2-requires
 number2-requires c κs = search needs
 
--- src/values.rt:36:40
 element-copy-out-number2-2 : tie.Need-element-copy-out-number2-2
 element-copy-out-number2-2 c = search needs
 
--- src/values.rt:36:9
 number2-requires-2 : tie.Need-number2-requires-2
 number2-requires-2 c κs = search needs
 
--- src/values.rt:37:35
 element-copy-out-number2-3 : tie.Need-element-copy-out-number2-3
 element-copy-out-number2-3 c = search needs
 
--- src/values.rt:37:9
 number2-requires-3 : tie.Need-number2-requires-3
 number2-requires-3 c κs = search needs
 
--- src/values.rt:38:31
 element-copy-out-upload-at : tie.Need-element-copy-out-upload-at
 element-copy-out-upload-at c = search needs
 
--- src/values.rt:38:45
 element-copy-out-upload-at-2 : tie.Need-element-copy-out-upload-at-2
 element-copy-out-upload-at-2 c = search needs
 
--- src/values.rt:38:9
 upload-at-requires : tie.Need-upload-at-requires
 upload-at-requires c κs = search needs
 
--- src/values.rt:23:1
 returns : tie.Need-returns
 returns c =
     let a = c .before .before .before .before .before .before .before .before .before .before .before .before .before .before .before .before .before .before .before .before .before .before .before .before .before .before .args in
