@@ -5,3 +5,4 @@ pub mod Says
 pub mod InOrder
 pub mod OnlyOne
 pub mod Cases
+pub mod RoundTrip

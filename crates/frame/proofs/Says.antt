@@ -16,7 +16,7 @@ use Rattle.reason.proofs.OrderLaws.{accepted-only-if, both-accept}
 use Rattle.octets.specs.Numbers.{byteAt, numberAt}
 use Rattle.octets.proofs.NumberLaws.{number-drop}
 use Rattle.remainder.specs.Check.{checkRight}
-use Rattle.ax25.specs.Head.{headLength, headChecks, headOf}
+use Rattle.ax25.specs.Head.{headLength, headChecks, headOf, readHead}
 use Rattle.ax25.proofs.HeadLaws.{HeadSays, head-says}
 use Rattle.header.specs.Header.{headerLength, headerOf, keepsRules}
 use Rattle.header.specs.Rules.{Rules}
@@ -39,6 +39,8 @@ at-least n m e l d = ⊎-elim (λ (h : 12 ≤ n). omega arith) (λ (h : n < 12).
 
 -- An accepted piece. The longest has 244 bytes, since a frame has at most 271.
 pub record PieceSays (frame : List ℕ) (p : Piece) : Type 0 where
+  pub is : p ≡ pieceOf frame
+  pub head-read : readHead file frame ≡ accepted (p .head)
   pub head : HeadSays file frame (p .head)
   pub flags : byteAt frame 16 ≡ pieceFlags
   pub number : p .number ≡ numberAt 4 frame 17
@@ -67,6 +69,8 @@ piece-says frame p e =
     let size : length (pieceBytes frame) ≡ length frame - 27 = ap length bytes ∙ part in
     let least : 28 ≤ length frame = at-least (length s) (length frame) all-of-it long more in
     record {
+      is = is;
+      head-read = rw is (two .0);
       head = rw is head;
       flags = sym (byte-in frame 0) ∙ eqb-true _ _ (not-false _ (none .1 .1 .0));
       number = ap (λ (q : Piece). q .number) is ∙ number-in 4 frame 1;
