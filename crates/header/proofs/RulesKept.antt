@@ -12,25 +12,13 @@ use Rattle.reason.proofs.OrderLaws.{not-both}
 use Rattle.octets.specs.Numbers.{byteAt}
 use Rattle.header.specs.declared.Header.{Header}
 use Rattle.header.specs.Items.{items, countOf, sizeOf}
-use Rattle.header.specs.Header.{beginsRight, headerLength, mandatory, every, once, valueOf, headerSum, headerOf, keepsRules, readHeader}
+use Rattle.header.specs.Header.{beginsRight, endsRight, allOnce, uploadRight, headerLength, mandatory, once, valueOf, headerSum, headerOf, keepsRules, readHeader}
 use Rattle.header.specs.Rules.{Rules}
 use Rattle.header.proofs.TableLaws.{each, all-pass}
 use Rattle.header.proofs.HeaderLaws.{reads-8, reads-header, header-accepted, header-refused}
 
 module _ (s : List ℕ) (number : ℕ) where
-  -- the test's parts, from the last to the first
-  abbrev Begins : Bool
-  Begins = beginsRight s
-
-  abbrev Ends : Bool
-  Ends = leb 1 (headerLength s)
-
-  abbrev Once : Bool
-  Once = every (once (items s)) mandatory
-
-  abbrev Upload : Bool
-  Upload = leb (countOf 0x12 (items s)) 1
-
+  -- the four parts of the test of the values
   abbrev Sum : Bool
   Sum = eqb (valueOf 0x0A 2 s) (headerSum s)
 
@@ -46,20 +34,20 @@ module _ (s : List ℕ) (number : ℕ) where
   pub rules : keepsRules s number ≡ true → Rules s number
   unfolding keepsRules headerOf
   rules k =
-      let four = and-left (Begins && Ends && Once && Upload) (Sum && Own && Behind && Before) k in
-      let values = and-right (Begins && Ends && Once && Upload) (Sum && Own && Behind && Before) k in
-      let three = and-left (Begins && Ends && Once) Upload four in
-      let two = and-left (Begins && Ends) Once three in
-      let listed = and-right (Begins && Ends) Once three in
-      let begun = and-left Begins Ends two in
+      let four = and-left (beginsRight s && endsRight s && allOnce s && uploadRight s) (Sum && Own && Behind && Before) k in
+      let values = and-right (beginsRight s && endsRight s && allOnce s && uploadRight s) (Sum && Own && Behind && Before) k in
+      let three = and-left (beginsRight s && endsRight s && allOnce s) (uploadRight s) four in
+      let two = and-left (beginsRight s && endsRight s) (allOnce s) three in
+      let listed = and-right (beginsRight s && endsRight s) (allOnce s) three in
+      let begun = and-left (beginsRight s) (endsRight s) two in
       let sums = and-left (Sum && Own && Behind) Before values in
       let owns = and-left (Sum && Own) Behind sums in
       record {
         marker = (eqb-true _ _ (and-left (eqb (byteAt s 0) 0xAA) (eqb (byteAt s 1) 0x55) begun), eqb-true _ _ (and-right (eqb (byteAt s 0) 0xAA) (eqb (byteAt s 1) 0x55) begun));
-        ends = leb-true _ _ (and-right Begins Ends two);
+        ends = leb-true _ _ (and-right (beginsRight s) (endsRight s) two);
         once = λ p m. eqb-true _ _ (and-left (eqb (countOf (p .id) (items s)) 1) (eqb (sizeOf (p .id) (items s)) (p .size)) (each (once (items s)) mandatory listed p m));
         sized = λ p m. eqb-true _ _ (and-right (eqb (countOf (p .id) (items s)) 1) (eqb (sizeOf (p .id) (items s)) (p .size)) (each (once (items s)) mandatory listed p m));
-        upload = leb-true _ _ (and-right (Begins && Ends && Once) Upload four);
+        upload = leb-true _ _ (and-right (beginsRight s && endsRight s && allOnce s) (uploadRight s) four);
         sum = eqb-true _ _ (and-left Sum Own owns);
         own = eqb-true _ _ (and-right Sum Own owns);
         behind = leb-true _ _ (and-right (Sum && Own) Behind sums);
@@ -73,9 +61,9 @@ module _ (s : List ℕ) (number : ℕ) where
       let listed = all-pass (once (items s)) mandatory (λ p m. and-both _ _ (eq-eqb _ _ (r .once p m)) (eq-eqb _ _ (r .sized p m))) in
       let owns = and-both Sum Own (eq-eqb _ _ (r .sum)) (eq-eqb _ _ (r .own)) in
       let values = and-both (Sum && Own && Behind) Before (and-both (Sum && Own) Behind owns (le-leb _ _ (r .behind))) (le-leb _ _ (r .before)) in
-      let two = and-both Begins Ends begun (le-leb _ _ (r .ends)) in
-      and-both (Begins && Ends && Once && Upload) (Sum && Own && Behind && Before)
-      (and-both (Begins && Ends && Once) Upload (and-both (Begins && Ends) Once two listed) (le-leb _ _ (r .upload))) values
+      let two = and-both (beginsRight s) (endsRight s) begun (le-leb _ _ (r .ends)) in
+      and-both (beginsRight s && endsRight s && allOnce s && uploadRight s) (Sum && Own && Behind && Before)
+      (and-both (beginsRight s && endsRight s && allOnce s) (uploadRight s) (and-both (beginsRight s && endsRight s) (allOnce s) two listed) (le-leb _ _ (r .upload))) values
 
   -- accepted exactly if it keeps them, and then with its values
   pub accepts-if : Rules s number → readHeader s number ≡ accepted (headerOf s)

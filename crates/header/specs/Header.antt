@@ -99,14 +99,25 @@ headerOf s = record {
   bytes = headerLength s;
 }
 
+-- its items come to the end item
+abbrev pub endsRight : List ℕ → Bool
+endsRight s = leb 1 (headerLength s)
+
+-- each mandatory item is there exactly once, with its length
+abbrev pub allOnce : List ℕ → Bool
+allOnce s = every (once (items s)) mandatory
+
+-- item 12 is there at most once
+abbrev pub uploadRight : List ℕ → Bool
+uploadRight s = leb (countOf 0x12 (items s)) 1
+
+-- its values agree with its bytes, with the number and with each other
+abbrev pub valuesRight : List ℕ → ℕ → Bool
+valuesRight s number = valuesAgree (headerOf s) (headerSum s) number
+
 -- the header keeps every rule: `Rules` says them one by one
 unfoldable pub keepsRules : List ℕ → ℕ → Bool
-keepsRules s number =
-    beginsRight s
-    && leb 1 (headerLength s)
-    && every (once (items s)) mandatory
-    && leb (countOf 0x12 (items s)) 1
-    && valuesAgree (headerOf s) (headerSum s) number
+keepsRules s number = beginsRight s && endsRight s && allOnce s && uploadRight s && valuesRight s number
 
 -- the order in reading a header: 8
 abbrev pub headerChecks : List ℕ → ℕ → List Check

@@ -5,7 +5,6 @@ use mathlib.Core.Bool.{Bool, true, false, _&&_, and-false}
 use mathlib.Core.List.{List}
 use Prim.Native.Nat.{ℕ, _≤_, _<_}
 use native.Mathlib.Omega.{arith}
-use lib.Dec.{leb}
 use lib.ListN.{getD}
 use lib.Seq.{length-take-le}
 use denote.Ref.{now}
@@ -14,7 +13,7 @@ use borrow.Author.Tests.{le-leb, lt-leb, not-true, not-false}
 use Rattle.reason.specs.Answer.{accepted}
 use Rattle.header.specs.declared.Header.{Header}
 use Rattle.header.specs.Items.{items, countOf}
-use Rattle.header.specs.Header.{beginsRight, headerLength, mandatory, every, once, headerSum, valuesAgree, headerOf, keepsRules}
+use Rattle.header.specs.Header.{beginsRight, headerLength, mandatory, every, headerSum, valuesAgree, headerOf, endsRight, allOnce, uploadRight, valuesRight, keepsRules}
 use Rattle.header.specs.Notes.{Noted, onceNoted}
 use Rattle.header.proofs.NoteLaws.{once-by-notes, values-by-notes, sum-by-notes, in-header, sum-in-header}
 use Rattle.header.proofs.HeaderLaws.{reads-8, reads-header}
@@ -41,53 +40,38 @@ all-5 : (a b c d e : Bool) → a ≡ true → b ≡ true → c ≡ true → d �
 all-5 a b c d e p q r s t = rw (p, q, r, s, t)
 
 module _ (s : List ℕ) (number : ℕ) where
-  abbrev Begins : Bool
-  Begins = beginsRight s
-
-  abbrev Ends : Bool
-  Ends = leb 1 (headerLength s)
-
-  abbrev Once : Bool
-  Once = every (once (items s)) mandatory
-
-  abbrev Upload : Bool
-  Upload = leb (countOf 0x12 (items s)) 1
-
-  abbrev Agree : Bool
-  Agree = valuesAgree (headerOf s) (headerSum s) number
-
-  not-begun : Begins ≡ false → keepsRules s number ≡ false
+  not-begun : beginsRight s ≡ false → keepsRules s number ≡ false
   unfolding keepsRules
-  not-begun h = no-1 Begins Ends Once Upload Agree h
+  not-begun h = no-1 (beginsRight s) (endsRight s) (allOnce s) (uploadRight s) (valuesRight s number) h
 
   -- by the notes
   module _ (end : ℕ) (counts sizes starts : List ℕ) (noted : Noted s end counts sizes starts) where
     not-ended : end ≡ 0 → keepsRules s number ≡ false
     unfolding keepsRules
-    not-ended h = no-2 Begins Ends Once Upload Agree (lt-leb 1 (headerLength s) (omega (arith, noted .ends)))
+    not-ended h = no-2 (beginsRight s) (endsRight s) (allOnce s) (uploadRight s) (valuesRight s number) (lt-leb 1 (headerLength s) (omega (arith, noted .ends)))
 
     not-once : every (onceNoted counts sizes) mandatory ≡ false → keepsRules s number ≡ false
     unfolding keepsRules
-    not-once h = no-3 Begins Ends Once Upload Agree (sym (once-by-notes s end counts sizes starts noted) ∙ h)
+    not-once h = no-3 (beginsRight s) (endsRight s) (allOnce s) (uploadRight s) (valuesRight s number) (sym (once-by-notes s end counts sizes starts noted) ∙ h)
 
     twice : 1 < getD counts 0x12 0 → keepsRules s number ≡ false
     unfolding keepsRules
-    twice h = no-4 Begins Ends Once Upload Agree (lt-leb (countOf 0x12 (items s)) 1 (omega (arith, noted .counted 0x12 (omega arith))))
+    twice h = no-4 (beginsRight s) (endsRight s) (allOnce s) (uploadRight s) (valuesRight s number) (lt-leb (countOf 0x12 (items s)) 1 (omega (arith, noted .counted 0x12 (omega arith))))
 
     -- what `agree` answered of the values and the sum
     module _ (h : Header) (sum : ℕ) (valued : h ≡ headerOf s) (summed : sum ≡ headerSum s) (r : Bool) (agreed : r ≡ valuesAgree h sum number) where
-      agrees : Agree ≡ r
+      agrees : valuesRight s number ≡ r
       agrees = ap₂ (λ (x : Header) (y : ℕ). valuesAgree x y number) (sym valued) (sym summed) ∙ sym agreed
 
       not-agreed : r ≡ false → keepsRules s number ≡ false
       unfolding keepsRules
-      not-agreed e = no-5 Begins Ends Once Upload Agree (agrees ∙ e)
+      not-agreed e = no-5 (beginsRight s) (endsRight s) (allOnce s) (uploadRight s) (valuesRight s number) (agrees ∙ e)
 
-      kept : Begins ≡ true → 0 < end → every (onceNoted counts sizes) mandatory ≡ true → getD counts 0x12 0 ≤ 1 → r ≡ true
+      kept : beginsRight s ≡ true → 0 < end → every (onceNoted counts sizes) mandatory ≡ true → getD counts 0x12 0 ≤ 1 → r ≡ true
           → keepsRules s number ≡ true
       unfolding keepsRules
       kept b e o u a =
-          all-5 Begins Ends Once Upload Agree b
+          all-5 (beginsRight s) (endsRight s) (allOnce s) (uploadRight s) (valuesRight s number) b
           (le-leb 1 (headerLength s) (omega (arith, noted .ends)))
           (sym (once-by-notes s end counts sizes starts noted) ∙ o)
           (le-leb (countOf 0x12 (items s)) 1 (omega (arith, noted .counted 0x12 (omega arith))))

@@ -11,7 +11,8 @@ use lib.Seq.{length-take-le}
 use denote.Ref.{now}
 use borrow.Author.Tests.{eq-eqb, ne-eqb, not-true, not-false}
 use borrow.Author.Needs.{needs}
-use Rattle.reason.specs.Answer.{accepted}
+use Rattle.reason.specs.Answer.{accepted, refused}
+use Rattle.reason.specs.Order.{firstOf}
 use Rattle.reason.proofs.Bools.{and-both}
 use Rattle.octets.specs.Numbers.{byteAt, numberAt}
 use Rattle.remainder.specs.Check.{checkRight}
@@ -22,7 +23,7 @@ use Rattle.header.specs.declared.HeaderRead.the-variants as header
 use Rattle.header.specs.Header.{headerLength, keepsRules, headerOf, headerAnswer, readHeader}
 use Rattle.header.proofs.HeaderLaws.{header-accepted, header-refused, told-length}
 use Rattle.frame.specs.declared.Entry.{Entry}
-use Rattle.frame.specs.Entry.{flagsAllowed, headerWhole, headerPart, headerRight, entryFields}
+use Rattle.frame.specs.Entry.{flagsAllowed, headerWhole, headerPart, headerRight, entryChecks, entryFields}
 use Rattle.frame.proofs.EntryLaws.{reads-1, reads-6, reads-5, reads-14, reads-8, reads-entry}
 use Rattle.frame.proofs.entries.read.Statement.{statement}
 use Rattle.frame.proofs.entries.read.Tie as tie
@@ -90,6 +91,22 @@ K c = J (c .before .before)
 whole : (c : tie.Else4) → let s = now (E (K c) .args .s) in headerWhole (byteAt s 0) (numberAt 4 s 5) ≡ true
 whole c = sym (judged (c .before .before)) ∙ not-false _ (c .if4 .left)
 
+-- what is known past the header's answer: the information, and that only the header is left to decide
+abbrev F : tie.After-read-header → tie.Else4
+F r = r .before .before .before .before .before
+
+abbrev S : tie.After-read-header → List ℕ
+S r = now (E (K (F r)) .args .s)
+
+named : (r : tie.After-read-header) → r .before .before .before .before .number42 .result ≡ numberAt 4 (S r) 1
+named r = r .before .before .before .before .number42 .ensures
+
+decides-8 : {A : Type 0} (r : tie.After-read-header) (a : A) → headerRight (S r) ≡ false → refused 8 ≡ firstOf (entryChecks (S r)) a
+decides-8 r a h = sym (reads-8 (S r) a (long (K (F r))) (right (K (F r))) (flagged (F r .before)) (whole (F r)) h)
+
+decides : {A : Type 0} (r : tie.After-read-header) (a : A) → headerRight (S r) ≡ true → accepted a ≡ firstOf (entryChecks (S r)) a
+decides r a h = sym (reads-entry (S r) a (long (K (F r))) (right (K (F r))) (flagged (F r .before)) (whole (F r)) h)
+
 returns : tie.Need-returns
 returns c = sym (reads-1 (now (c .before .before .args .s)) _ (c .if1 .taken))
 
@@ -153,11 +170,7 @@ enum-told c = search needs
 returns-5 : tie.Need-returns-5
 returns-5 c =
     let r = c .before .before in
-    let n = r .before .before .before .before in
-    let f = n .before in
-    let k = K f in
-    let s = now (E k .args .s) in
-    sym (reads-8 s _ (long k) (right k) (flagged (f .before)) (whole f) (not-header s (long k) _ (n .number42 .ensures) _ (r .read-header .ensures) _ (c .enum-told .given .1)))
+    decides-8 r _ (not-header (S r) (long (K (F r))) _ (named r) _ (r .read-header .ensures) _ (c .enum-told .given .1))
 
 sub-if5 : tie.Need-sub-if5
 sub-if5 c = omega (arith, long (K (c .before .before .before .before .before .before .before .before)))
@@ -166,23 +179,18 @@ returns-6 : tie.Need-returns-6
 returns-6 c =
     let h = c .before .before .before in
     let r = h .before .before in
-    let n = r .before .before .before .before in
-    let f = n .before in
-    let k = K f in
-    let s = now (E k .args .s) in
-    sym (reads-8 s _ (long k) (right k) (flagged (f .before)) (whole f) (followed s (long k) _ (n .number42 .ensures) _ (r .read-header .ensures) _ (h .header .given .1) (c .if5 .taken)))
+    decides-8 r _ (followed (S r) (long (K (F r))) _ (named r) _ (r .read-header .ensures) _ (h .header .given .1) (c .if5 .taken))
 
 returns-7 : tie.Need-returns-7
 returns-7 c =
     let h = c .before .before .before in
     let r = h .before .before in
-    let n = r .before .before .before .before in
-    let f = n .before in
-    let k = K f in
-    let s = now (E k .args .s) in
-    let part = is s (long k) _ (n .number42 .ensures) _ (r .read-header .ensures) _ (h .header .given .1) in
-    ap accepted (fields (E k .args .head) s _ _ _ _ _ (n .number42 .ensures) (f .before .before .before .before .number4 .ensures) (r .before .before .before .number43 .ensures) (r .before .before .number44 .ensures) part)
-    ∙ sym (reads-entry s _ (long k) (right k) (flagged (f .before)) (whole f) (alone s (long k) _ (n .number42 .ensures) _ (r .read-header .ensures) _ (h .header .given .1) (c .if5 .left)))
+    let part = is (S r) (long (K (F r))) _ (named r) _ (r .read-header .ensures) _ (h .header .given .1) in
+    let offset = F r .before .before .before .before .number4 .ensures in
+    let old = r .before .before .before .number43 .ensures in
+    let new = r .before .before .number44 .ensures in
+    ap accepted (fields (E (K (F r)) .args .head) (S r) _ _ _ _ _ (named r) offset old new part)
+    ∙ decides r _ (alone (S r) (long (K (F r))) _ (named r) _ (r .read-header .ensures) _ (h .header .given .1) (c .if5 .left))
 
 pub read-spec : {M : Type 1} → statement M
 read-spec =
