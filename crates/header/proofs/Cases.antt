@@ -13,7 +13,7 @@ use Rattle.header.specs.declared.Step.{Step}
 use Rattle.header.specs.declared.Step.the-variants.{Found, Ended, Broken}
 use Rattle.header.specs.declared.Decision.{Decision}
 use Rattle.header.specs.declared.Upload.{Upload}
-use Rattle.header.specs.declared.Upload.the-variants.{At, Absent}
+use Rattle.header.specs.declared.Upload.the-variants.{Time, Absent}
 use Rattle.header.specs.declared.Header.{Header}
 use Rattle.header.specs.Items.{mandatoryItems, knownItems, decisionOf, stepWith, stepAt, itemsFrom}
 use Rattle.header.specs.Header.{headerSum, headerOf, keepsRules, readHeader}
@@ -64,8 +64,8 @@ values body sum upload bytes = record {
 
 pub record Cases : Type 0 where
   pub sum-of-figure-3-1 : headerSum figure31 ≡ 0x0DB6
-  pub figure-3-1 : readHeader figure31 0x21E0 ≡ accepted (values 0x50 0x0DB6 (At 0x384DB0D6) 80)
-  pub body-behind : readHeader (figure31 ++ 0x00 ∷ 0x23 ∷ 0x30 ∷ []) 0x21E0 ≡ accepted (values 0x50 0x0DB6 (At 0x384DB0D6) 80)
+  pub figure-3-1 : readHeader figure31 0x21E0 ≡ accepted (values 0x50 0x0DB6 (Time 0x384DB0D6) 80)
+  pub body-behind : readHeader (figure31 ++ 0x00 ∷ 0x23 ∷ 0x30 ∷ []) 0x21E0 ≡ accepted (values 0x50 0x0DB6 (Time 0x384DB0D6) 80)
   pub other-number : readHeader figure31 0x21E1 ≡ refused 8
   pub marker-wrong : readHeader (set (set figure31 0 0xAB) 70 0xB7) 0x21E0 ≡ refused 8
   pub no-bytes : readHeader [] 0x21E0 ≡ refused 8
@@ -81,7 +81,7 @@ pub record Cases : Type 0 where
   pub item-too-long : readHeader long-seven 0x21E0 ≡ refused 8
   pub upload-too-short : readHeader short-twelve 0x21E0 ≡ refused 8
   pub body-in-header : readHeader (body 0x4F 0x00 0xB5) 0x21E0 ≡ refused 8
-  pub body-at-end-of-file : readHeader (body 0x4E 0x0B 0xBF) 0x21E0 ≡ accepted (values 0x0B4E 0x0DBF (At 0x384DB0D6) 80)
+  pub body-at-end-of-file : readHeader (body 0x4E 0x0B 0xBF) 0x21E0 ≡ accepted (values 0x0B4E 0x0DBF (Time 0x384DB0D6) 80)
   pub body-beyond-file : readHeader (body 0x4F 0x0B 0xC0) 0x21E0 ≡ refused 8
   pub sum-over-itself : readHeader (set (set figure31 70 0x79) 71 0x0E) 0x21E0 ≡ refused 8
   pub name-bytes : dataOf 0x02 figure31 ≡ 0x43 ∷ 0x4C ∷ 0x39 ∷ 0x39 ∷ 0x31 ∷ 0x32 ∷ 0x30 ∷ 0x38 ∷ []

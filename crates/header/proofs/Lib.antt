@@ -3,6 +3,7 @@ pub mod TableLaws
 pub mod NoteLaws
 pub mod HeaderLaws
 pub mod RulesKept
+pub mod Says
 pub mod OnlyOne
 pub mod InOrder
 pub mod Cases

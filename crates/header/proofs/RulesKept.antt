@@ -45,8 +45,8 @@ module _ (s : List ℕ) (number : ℕ) where
       record {
         marker = (eqb-true _ _ (and-left (eqb (byteAt s 0) 0xAA) (eqb (byteAt s 1) 0x55) begun), eqb-true _ _ (and-right (eqb (byteAt s 0) 0xAA) (eqb (byteAt s 1) 0x55) begun));
         ends = leb-true _ _ (and-right (beginsRight s) (endsRight s) two);
-        once = λ p m. eqb-true _ _ (and-left (eqb (countOf (p .id) (items s)) 1) (eqb (sizeOf (p .id) (items s)) (p .size)) (each (once (items s)) mandatory listed p m));
-        sized = λ p m. eqb-true _ _ (and-right (eqb (countOf (p .id) (items s)) 1) (eqb (sizeOf (p .id) (items s)) (p .size)) (each (once (items s)) mandatory listed p m));
+        each-once = λ p m. eqb-true _ _ (and-left (eqb (countOf (items s) (p .id)) 1) (eqb (sizeOf (items s) (p .id)) (p .size)) (each (once (countOf (items s)) (sizeOf (items s))) mandatory listed p m));
+        each-sized = λ p m. eqb-true _ _ (and-right (eqb (countOf (items s) (p .id)) 1) (eqb (sizeOf (items s) (p .id)) (p .size)) (each (once (countOf (items s)) (sizeOf (items s))) mandatory listed p m));
         upload = leb-true _ _ (and-right (beginsRight s && endsRight s && allOnce s) (uploadRight s) four);
         sum = eqb-true _ _ (and-left Sum Own owns);
         own = eqb-true _ _ (and-right Sum Own owns);
@@ -58,7 +58,7 @@ module _ (s : List ℕ) (number : ℕ) where
   unfolding keepsRules headerOf
   kept r =
       let begun = and-both (eqb (byteAt s 0) 0xAA) (eqb (byteAt s 1) 0x55) (eq-eqb _ _ (r .marker .0)) (eq-eqb _ _ (r .marker .1)) in
-      let listed = all-pass (once (items s)) mandatory (λ p m. and-both _ _ (eq-eqb _ _ (r .once p m)) (eq-eqb _ _ (r .sized p m))) in
+      let listed = all-pass (once (countOf (items s)) (sizeOf (items s))) mandatory (λ p m. and-both _ _ (eq-eqb _ _ (r .each-once p m)) (eq-eqb _ _ (r .each-sized p m))) in
       let owns = and-both Sum Own (eq-eqb _ _ (r .sum)) (eq-eqb _ _ (r .own)) in
       let values = and-both (Sum && Own && Behind) Before (and-both (Sum && Own) Behind owns (le-leb _ _ (r .behind))) (le-leb _ _ (r .before)) in
       let two = and-both (beginsRight s) (endsRight s) begun (le-leb _ _ (r .ends)) in

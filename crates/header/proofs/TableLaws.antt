@@ -13,6 +13,7 @@ use Rattle.reason.proofs.Bools.{and-left, and-right, and-both}
 use Rattle.header.specs.declared.Pair.{Pair}
 use Rattle.header.specs.Items.{mandatoryItems}
 use Rattle.header.specs.Header.{mandatory, every}
+use Rattle.header.specs.Notes.{places}
 
 -- every pair passes a test exactly if each pair in the list does
 pub each : (test : Pair → Bool) (ps : List Pair) → every test ps ≡ true → (p : Pair) → List·Memᴰ p ps → test p ≡ true
@@ -40,12 +41,12 @@ pub eleven : length mandatory ≡ 11
 unfolding mandatoryItems
 eleven = refl
 
-all-below : every (λ p. ltb (p .id) 19) mandatory ≡ true
+all-below : every (λ p. ltb (p .id) places) mandatory ≡ true
 unfolding mandatoryItems
 all-below = refl
 
-pub below : (p : Pair) → List·Memᴰ p mandatory → p .id < 19
-below p m = ltb-true (p .id) 19 (each (λ q. ltb (q .id) 19) mandatory all-below p m)
+pub below : (p : Pair) → List·Memᴰ p mandatory → p .id < places
+below p m = ltb-true (p .id) places (each (λ q. ltb (q .id) places) mandatory all-below p m)
 
 pub sum-listed : List·Memᴰ (record { id = 0x0A; size = 2 }) mandatory
 unfolding mandatoryItems

@@ -7,4 +7,4 @@ use Rattle.header.specs.Items.{items, startOf, sizeOf}
 
 -- the data of the last item with the id; no bytes if there is none
 unfoldable pub dataOf : ℕ → List ℕ → List ℕ
-dataOf id s = take (sizeOf id (items s)) (drop (startOf id (items s)) s)
+dataOf id s = take (sizeOf (items s) id) (drop (startOf (items s) id) s)

@@ -13,11 +13,11 @@ use Rattle.header.specs.declared.Pair.{Pair}
 use Rattle.header.specs.declared.Name.{Name}
 use Rattle.header.specs.declared.Extension.{Extension}
 use Rattle.header.specs.declared.Upload.{Upload}
-use Rattle.header.specs.declared.Upload.the-variants.{At, Absent}
+use Rattle.header.specs.declared.Upload.the-variants.{Time, Absent}
 use Rattle.header.specs.declared.Header.{Header}
 use Rattle.header.specs.declared.HeaderRead.{HeaderRead}
 use Rattle.header.specs.declared.HeaderRead.the-variants.{Accepted, Refused}
-use Rattle.header.specs.Items.{Known, known, mandatoryItems, Items, items, countOf, startOf, sizeOf, endOf}
+use Rattle.header.specs.Items.{Known, known, mandatoryItems, items, countOf, startOf, sizeOf, endOf}
 
 -- the first two bytes are AA 55
 abbrev pub beginsRight : List ℕ → Bool
@@ -27,11 +27,12 @@ beginsRight s = eqb (byteAt s 0) 0xAA && eqb (byteAt s 1) 0x55
 abbrev pub headerLength : List ℕ → ℕ
 headerLength s = endOf (items s)
 
--- the table of mandatory items: id and length
+-- known items as pairs of id and length
 abbrev pub pairsOf : List Known → List Pair
 pairsOf [] = []
 pairsOf (known id size meaning ∷ rest) = record { id = id; size = size } ∷ pairsOf rest
 
+-- the table of mandatory items: id and length
 abbrev pub mandatory : List Pair
 mandatory = pairsOf mandatoryItems
 
@@ -40,13 +41,14 @@ abbrev pub every : (Pair → Bool) → List Pair → Bool
 every test [] = true
 every test (p ∷ rest) = test p && every test rest
 
--- the pair's item is there exactly once, with its length
-abbrev pub once : Items → Pair → Bool
-once is p = eqb (countOf (p .id) is) 1 && eqb (sizeOf (p .id) is) (p .size)
+-- the pair's item is there exactly once, with its length; count and size tell of each id how many items have it, and how
+-- long their data are
+abbrev pub once : (ℕ → ℕ) → (ℕ → ℕ) → Pair → Bool
+once count size p = eqb (count (p .id)) 1 && eqb (size (p .id)) (p .size)
 
 -- the value of the item with the id, a number of n bytes
 abbrev pub valueOf : ℕ → ℕ → List ℕ → ℕ
-valueOf id n s = numberAt n s (startOf id (items s))
+valueOf id n s = numberAt n s (startOf (items s) id)
 
 -- the sum of bytes
 abbrev pub sumOf : List ℕ → ℕ
@@ -55,7 +57,7 @@ sumOf (b ∷ s) = b + sumOf s
 
 -- the sum of all header bytes modulo 65,536, with item 0A's own two data bytes taken as 0
 unfoldable pub headerSum : List ℕ → ℕ
-headerSum s = sumOf (putIn (take (headerLength s) s) (startOf 0x0A (items s)) (0 ∷ 0 ∷ [])) % 65536
+headerSum s = sumOf (putIn (take (headerLength s) s) (startOf (items s) 0x0A) (0 ∷ 0 ∷ [])) % 65536
 
 -- item 0A is the sum, item 01 the file's number, and item 0B at least the header's length and at most item 04
 abbrev pub valuesAgree : Header → ℕ → ℕ → Bool
@@ -77,27 +79,32 @@ nameAt s at = record {
 abbrev pub extensionAt : List ℕ → ℕ → Extension
 extensionAt s at = record { c0 = byteAt s at; c1 = byteAt s (at + 1); c2 = byteAt s (at + 2) }
 
--- item 12 where it is present
-abbrev pub uploadOf : List ℕ → Upload
-uploadOf s = cond (eqb (countOf 0x12 (items s)) 0) Absent (At (valueOf 0x12 4 s))
+-- item 12 where it is present: how many items there are, and where the data start
+abbrev pub uploadBy : ℕ → ℕ → List ℕ → Upload
+uploadBy count at s = cond (eqb count 0) Absent (Time (numberAt 4 s at))
 
--- the values of all items, and the header's length
-unfoldable pub headerOf : List ℕ → Header
-headerOf s = record {
-  number = valueOf 0x01 4 s;
-  name = nameAt s (startOf 0x02 (items s));
-  extension = extensionAt s (startOf 0x03 (items s));
-  size = valueOf 0x04 4 s;
-  created = valueOf 0x05 4 s;
-  modified = valueOf 0x06 4 s;
-  upset = byteAt s (startOf 0x07 (items s));
-  kind = byteAt s (startOf 0x08 (items s));
-  bodysum = valueOf 0x09 2 s;
-  headersum = valueOf 0x0A 2 s;
-  body = valueOf 0x0B 2 s;
-  upload = uploadOf s;
-  bytes = headerLength s;
+-- the values of all items of a header of so many bytes; count and start tell of each id how many items have it, and where their
+-- data start
+abbrev pub valuesBy : (ℕ → ℕ) → (ℕ → ℕ) → ℕ → List ℕ → Header
+valuesBy count start bytes s = record {
+  number = numberAt 4 s (start 0x01);
+  name = nameAt s (start 0x02);
+  extension = extensionAt s (start 0x03);
+  size = numberAt 4 s (start 0x04);
+  created = numberAt 4 s (start 0x05);
+  modified = numberAt 4 s (start 0x06);
+  upset = byteAt s (start 0x07);
+  kind = byteAt s (start 0x08);
+  bodysum = numberAt 2 s (start 0x09);
+  headersum = numberAt 2 s (start 0x0A);
+  body = numberAt 2 s (start 0x0B);
+  upload = uploadBy (count 0x12) (start 0x12) s;
+  bytes = bytes;
 }
+
+-- the values of the header that s starts with
+unfoldable pub headerOf : List ℕ → Header
+headerOf s = valuesBy (countOf (items s)) (startOf (items s)) (headerLength s) s
 
 -- its items come to the end item
 abbrev pub endsRight : List ℕ → Bool
@@ -105,11 +112,11 @@ endsRight s = leb 1 (headerLength s)
 
 -- each mandatory item is there exactly once, with its length
 abbrev pub allOnce : List ℕ → Bool
-allOnce s = every (once (items s)) mandatory
+allOnce s = every (once (countOf (items s)) (sizeOf (items s))) mandatory
 
 -- item 12 is there at most once
 abbrev pub uploadRight : List ℕ → Bool
-uploadRight s = leb (countOf 0x12 (items s)) 1
+uploadRight s = leb (countOf (items s) 0x12) 1
 
 -- its values agree with its bytes, with the number and with each other
 abbrev pub valuesRight : List ℕ → ℕ → Bool

@@ -35,7 +35,7 @@ mandatoryItems =
     ∷ known 0x0B 2 BodyOffset
     ∷ []
 
--- all items of one length: the end item has no data, and item 12 has 4 bytes
+-- all items whose length is fixed: the end item, which has no data, the mandatory ones, and item 12 with 4 bytes
 unfoldable pub knownItems : List Known
 knownItems = known 0x00 0 End ∷ mandatoryItems ++ known 0x12 4 UploadTime ∷ []
 
@@ -93,10 +93,10 @@ abbrev pub items : List ℕ → Items
 items s = itemsFrom s 2
 
 -- how many items have the id
-abbrev pub countOf : ℕ → Items → ℕ
-countOf id (item i rest) = cond (eqb (i .id) id) 1 0 + countOf id rest
-countOf id (ended e) = 0
-countOf id broken = 0
+abbrev pub countOf : Items → ℕ → ℕ
+countOf (item i rest) id = cond (eqb (i .id) id) 1 0 + countOf rest id
+countOf (ended e) id = 0
+countOf broken id = 0
 
 -- f of the last item with the id, and d if there is none
 abbrev pub lastOf : (Item → ℕ) → ℕ → ℕ → Items → ℕ
@@ -105,11 +105,11 @@ lastOf f d id (ended e) = d
 lastOf f d id broken = d
 
 -- where the data of the item with the id starts, and how many bytes they are
-abbrev pub startOf : ℕ → Items → ℕ
-startOf id is = lastOf (λ (i : Item). i .start) 0 id is
+abbrev pub startOf : Items → ℕ → ℕ
+startOf is id = lastOf (λ (i : Item). i .start) 0 id is
 
-abbrev pub sizeOf : ℕ → Items → ℕ
-sizeOf id is = lastOf (λ (i : Item). i .size) 0 id is
+abbrev pub sizeOf : Items → ℕ → ℕ
+sizeOf is id = lastOf (λ (i : Item). i .size) 0 id is
 
 -- the place behind the end item, and 0 if the items break off
 abbrev pub endOf : Items → ℕ

@@ -12,13 +12,14 @@ use Rattle.header.specs.Header.{headerLength, mandatory, valueOf, header
 pub record Rules (s : List ℕ) (number : ℕ) : Type 0 where
   -- it begins with AA 55
   pub marker : (byteAt s 0 ≡ 0xAA) × (byteAt s 1 ≡ 0x55)
-  -- its items come to the end item: each is there whole, and has a length that its id allows
+  -- its items come to the end item: each is there whole and has a length that its id allows, a known item its own and the end
+  -- item none
   pub ends : 1 ≤ headerLength s
   -- each mandatory item is there exactly once, with its length
-  pub once : (p : Pair) → List·Memᴰ p mandatory → countOf (p .id) (items s) ≡ 1
-  pub sized : (p : Pair) → List·Memᴰ p mandatory → sizeOf (p .id) (items s) ≡ p .size
+  pub each-once : (p : Pair) → List·Memᴰ p mandatory → countOf (items s) (p .id) ≡ 1
+  pub each-sized : (p : Pair) → List·Memᴰ p mandatory → sizeOf (items s) (p .id) ≡ p .size
   -- item 12 is there at most once
-  pub upload : countOf 0x12 (items s) ≤ 1
+  pub upload : countOf (items s) 0x12 ≤ 1
   -- item 0A is the sum of all header bytes, with its own two data bytes taken as 0
   pub sum : valueOf 0x0A 2 s ≡ headerSum s
   -- item 01 is the file's number

@@ -2,12 +2,13 @@
 //
 // A cursor steps from item to item. `read_header` walks over all items once, notes what it meets,
 // and answers the header's values and its length, or reason 8; what follows the header in the slice
-// is not looked at. Its contracts cite `specs/Items.antt`, `specs/Header.antt` and `specs/Data.antt`.
+// is not looked at. The contracts cite `specs/Items.antt`, `specs/Header.antt` and `specs/Data.antt`.
 // `specs/Rules.antt` says the rules as propositions, and `proofs/RulesKept.antt` that a header is
 // accepted exactly if it keeps them all.
 mod notes;
 mod values;
 
+use notes::PLACES;
 ghost use mathlib.Core.Path.{_≡_};
 ghost use Rattle.header.specs.Items.{decisionOf, allowsSize, stepAt};
 ghost use Rattle.header.specs.Header.{headerAnswer, readHeader};
@@ -91,11 +92,14 @@ pub struct Extension {
 
 // Item 12, the upload time, where the header has it.
 pub enum Upload {
-    At(u32),
+    Time(u32),
     Absent,
 }
 
-// The values of a header's items, 01 to 0B and 12, and the header's own length in bytes.
+// The values of a header's items, in their order 01 to 0B and then 12: the file's number, name and
+// extension, its size with its header, the times of its creation and last modification, whether an upset
+// was detected, its type, the sums of body and header, where the body starts, and the upload time; and
+// the header's own length in bytes.
 pub struct Header {
     pub number: u32,
     pub name: Name,
@@ -228,9 +232,9 @@ pub fn read_header(s: &[u8], number: u32) -> HeaderRead
     if !values::begins(s) {
         return HeaderRead::Refused(8);
     }
-    let mut counts = [0; 19];
-    let mut sizes = [0; 19];
-    let mut starts = [0; 19];
+    let mut counts = [0; PLACES];
+    let mut sizes = [0; PLACES];
+    let mut starts = [0; PLACES];
     let end = notes::walk(s, &mut counts, &mut sizes, &mut starts);
     if end == 0 {
         return HeaderRead::Refused(8);

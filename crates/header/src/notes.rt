@@ -1,14 +1,16 @@
-// What one walk over a header's items notes of each id below 13 (hexadecimal): how many items have it,
-// and the length and the start of the last one's data.
+// What one walk over a header's items notes of each id that has a place: how many items have it, and
+// the length and the start of the last one's data.
 use super::Cursor;
 use super::Item;
 use super::Pair;
 use super::Step;
 ghost use mathlib.Core.Path.{_≡_};
 ghost use Prim.Native.Nat.{_+_, _<_};
-ghost use lib.ListN.{getD};
-ghost use Rattle.header.specs.Header.{mandatory, every};
-ghost use Rattle.header.specs.Notes.{none, withMark, Noted, onceNoted};
+ghost use Rattle.header.specs.Header.{mandatory, every, once};
+ghost use Rattle.header.specs.Notes.{places, none, noteOf, withNote, Noted};
+
+// The ids that have a place in the notes: those below 13 hexadecimal, the known ones among them.
+pub(crate) const PLACES: usize = 19;
 
 // The mandatory items: id and length.
 const MANDATORY: [Pair; 11] = [
@@ -29,9 +31,9 @@ const MANDATORY: [Pair; 11] = [
 // items break off.
 pub(crate) fn walk(
     s: &[u8],
-    counts: &mut [usize; 19],
-    sizes: &mut [usize; 19],
-    starts: &mut [usize; 19],
+    counts: &mut [usize; PLACES],
+    sizes: &mut [usize; PLACES],
+    starts: &mut [usize; PLACES],
 ) -> usize
     requires { ⌜ (now counts ≡ none) × (now sizes ≡ none) × (now starts ≡ none) ⌝ }
     ensures { λ r. ⌜ Noted (now (s .entry)) r (now (counts .exit)) (now (sizes .exit)) (now (starts .exit)) ⌝ }
@@ -50,14 +52,19 @@ pub(crate) fn walk(
 }
 
 // Notes one item more.
-fn note(counts: &mut [usize; 19], sizes: &mut [usize; 19], starts: &mut [usize; 19], item: Item)
-    requires { ⌜ getD (now counts) (item .id) 0 < item .start ⌝ }
-    ensures { λ r. ⌜ now (counts .exit) ≡ withMark (now (counts .entry)) (item .id) (getD (now (counts .entry)) (item .id) 0 + 1) ⌝ }
-    ensures { λ r. ⌜ now (sizes .exit) ≡ withMark (now (sizes .entry)) (item .id) (item .size) ⌝ }
-    ensures { λ r. ⌜ now (starts .exit) ≡ withMark (now (starts .entry)) (item .id) (item .start) ⌝ }
+fn note(
+    counts: &mut [usize; PLACES],
+    sizes: &mut [usize; PLACES],
+    starts: &mut [usize; PLACES],
+    item: Item,
+)
+    requires { ⌜ noteOf (now counts) (item .id) < item .start ⌝ }
+    ensures { λ r. ⌜ now (counts .exit) ≡ withNote (now (counts .entry)) (item .id) (noteOf (now (counts .entry)) (item .id) + 1) ⌝ }
+    ensures { λ r. ⌜ now (sizes .exit) ≡ withNote (now (sizes .entry)) (item .id) (item .size) ⌝ }
+    ensures { λ r. ⌜ now (starts .exit) ≡ withNote (now (starts .entry)) (item .id) (item .start) ⌝ }
 {
     let id = item.id as usize;
-    if id < 19 {
+    if id < PLACES {
         counts[id] += 1;
         sizes[id] = item.size;
         starts[id] = item.start;
@@ -65,8 +72,8 @@ fn note(counts: &mut [usize; 19], sizes: &mut [usize; 19], starts: &mut [usize; 
 }
 
 // Whether each mandatory item was met exactly once, with its length.
-pub(crate) fn all_once(counts: &[usize; 19], sizes: &[usize; 19]) -> bool
-    ensures { λ r. ⌜ r ≡ every (onceNoted (now (counts .entry)) (now (sizes .entry))) mandatory ⌝ }
+pub(crate) fn all_once(counts: &[usize; PLACES], sizes: &[usize; PLACES]) -> bool
+    ensures { λ r. ⌜ r ≡ every (once (noteOf (now (counts .entry))) (noteOf (now (sizes .entry)))) mandatory ⌝ }
 {
     let table = MANDATORY;
     for k in 0..11 {
@@ -79,9 +86,9 @@ pub(crate) fn all_once(counts: &[usize; 19], sizes: &[usize; 19]) -> bool
 }
 
 // Whether the pair's item was met exactly once, with its length.
-fn once(counts: &[usize; 19], sizes: &[usize; 19], pair: Pair) -> bool
-    requires { ⌜ pair .id < 19 ⌝ }
-    ensures { λ r. ⌜ r ≡ onceNoted (now (counts .entry)) (now (sizes .entry)) pair ⌝ }
+fn once(counts: &[usize; PLACES], sizes: &[usize; PLACES], pair: Pair) -> bool
+    requires { ⌜ pair .id < places ⌝ }
+    ensures { λ r. ⌜ r ≡ once (noteOf (now (counts .entry))) (noteOf (now (sizes .entry))) pair ⌝ }
 {
     let id = pair.id as usize;
     (counts[id] == 1) & (sizes[id] == pair.size)

@@ -4,13 +4,14 @@ use super::Extension;
 use super::Header;
 use super::Name;
 use super::Upload;
+use super::notes::PLACES;
 ghost use mathlib.Core.Path.{_≡_};
 ghost use mathlib.Core.List.{[], _∷_};
 ghost use Prim.Native.Nat.{_+_, _%_, _≤_, _<_};
-ghost use lib.ListN.{length, getD};
+ghost use lib.ListN.{length};
 ghost use Rattle.octets.specs.Runs.{putIn};
-ghost use Rattle.header.specs.Header.{beginsRight, sumOf, valuesAgree, nameAt, extensionAt};
-ghost use Rattle.header.specs.Notes.{uploadNoted, valuesNoted};
+ghost use Rattle.header.specs.Header.{beginsRight, sumOf, valuesAgree, nameAt, extensionAt, uploadBy, valuesBy};
+ghost use Rattle.header.specs.Notes.{noteOf};
 
 // Whether s begins with AA 55.
 pub(crate) fn begins(s: &[u8]) -> bool
@@ -20,9 +21,14 @@ pub(crate) fn begins(s: &[u8]) -> bool
 }
 
 // The values of the items whose data start at the noted places.
-pub(crate) fn values(s: &[u8], end: usize, counts: &[usize; 19], starts: &[usize; 19]) -> Header
-    requires { ⌜ (getD (now starts) 0x02 0 ≤ length (now s)) × (getD (now starts) 0x03 0 ≤ length (now s)) ⌝ }
-    ensures { λ r. ⌜ r ≡ valuesNoted (now (s .entry)) end (now (counts .entry)) (now (starts .entry)) ⌝ }
+pub(crate) fn values(
+    s: &[u8],
+    end: usize,
+    counts: &[usize; PLACES],
+    starts: &[usize; PLACES],
+) -> Header
+    requires { ⌜ (noteOf (now starts) 0x02 ≤ length (now s)) × (noteOf (now starts) 0x03 ≤ length (now s)) ⌝ }
+    ensures { λ r. ⌜ r ≡ valuesBy (noteOf (now (counts .entry))) (noteOf (now (starts .entry))) end (now (s .entry)) ⌝ }
 {
     let number = octets::number4(s, starts[0x01]);
     let name = name_at(s, starts[0x02]);
@@ -124,11 +130,11 @@ fn extension_at(s: &[u8], at: usize) -> Extension
 
 // Item 12, of which `count` were met and the last one's data start at a place.
 fn upload_at(s: &[u8], count: usize, at: usize) -> Upload
-    ensures { λ r. ⌜ r ≡ uploadNoted (now (s .entry)) count at ⌝ }
+    ensures { λ r. ⌜ r ≡ uploadBy count at (now (s .entry)) ⌝ }
 {
     if count == 0 {
         Upload::Absent
     } else {
-        Upload::At(octets::number4(s, at))
+        Upload::Time(octets::number4(s, at))
     }
 }

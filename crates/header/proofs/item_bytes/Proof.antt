@@ -15,7 +15,7 @@ use Rattle.header.specs.declared.Step.{Step}
 use Rattle.header.specs.declared.Step.the-variants.{Found}
 use Rattle.header.specs.Items.{stepAt, Items, itemsFrom, items, lastOf, startOf, sizeOf}
 use Rattle.header.specs.Data.{dataOf}
-use Rattle.header.proofs.ItemLaws.{items-by, found-by-told}
+use Rattle.header.proofs.ItemLaws.{items-by, found-by-told, last-more}
 use Rattle.header.proofs.item_bytes.Statement.{statement}
 use Rattle.header.proofs.item_bytes.Tie as tie
 
@@ -27,8 +27,8 @@ Size i = i .size
 
 -- what is known of the last item with the id when the cursor is at a place: with the items from there on it is the last of all
 record SoFar (s : List ℕ) (id at start size : ℕ) : Type 0 where
-  pub started : lastOf Start start id (itemsFrom s at) ≡ startOf id (items s)
-  pub sized : lastOf Size size id (itemsFrom s at) ≡ sizeOf id (items s)
+  pub started : lastOf Start start id (itemsFrom s at) ≡ startOf (items s) id
+  pub sized : lastOf Size size id (itemsFrom s at) ≡ sizeOf (items s) id
   pub within : start + size ≤ length s
 
 before-all : (s : List ℕ) (id at : ℕ) → at ≡ 2 → SoFar s id at 0 0
@@ -37,25 +37,23 @@ before-all s id at e = rw e (record { started = refl; sized = refl; within = ome
 module _ (s : List ℕ) (id at start size : ℕ) (sofar : SoFar s id at start size) where
   -- one item more: with the id, and with another
   module _ (r : Step) (i : Item) (c : Cursor) (told : r ≡ Found i c) (stepped : r ≡ stepAt s at) where
-    last-more : (f : Item → ℕ) (d : ℕ) (b : Bool) → eqb (i .id) id ≡ b
-        → lastOf f (cond b (f i) d) id (itemsFrom s (c .at)) ≡ lastOf f d id (itemsFrom s at)
-    last-more f d b e =
-        ap (λ (x : Bool). lastOf f (cond x (f i) d) id (itemsFrom s (c .at))) (sym e) ∙ ap (lastOf f d id) (sym (items-by s at told stepped))
+    more : (f : Item → ℕ) (d : ℕ) (b : Bool) → eqb (i .id) id ≡ b → lastOf f (cond b (f i) d) id (itemsFrom s (c .at)) ≡ lastOf f d id (itemsFrom s at)
+    more f d b e = ap (λ (x : Bool). lastOf f (cond x (f i) d) id (itemsFrom s (c .at))) (sym e) ∙ last-more s at told stepped f d id
 
     taken : i .id ≡ id → SoFar s id (c .at) (i .start) (i .size)
     taken e =
         let x = found-by-told s at told stepped in
         let b = eq-eqb (i .id) id e in
         record {
-          started = last-more Start start true b ∙ sofar .started;
-          sized = last-more Size size true b ∙ sofar .sized;
+          started = more Start start true b ∙ sofar .started;
+          sized = more Size size true b ∙ sofar .sized;
           within = omega (arith, x .starts, x .next, x .within);
         }
 
     passed : (i .id ≡ id → ⊥) → SoFar s id (c .at) start size
     passed e =
         let b = ne-eqb (i .id) id e in
-        record { started = last-more Start start false b ∙ sofar .started; sized = last-more Size size false b ∙ sofar .sized; within = sofar .within }
+        record { started = more Start start false b ∙ sofar .started; sized = more Size size false b ∙ sofar .sized; within = sofar .within }
 
   -- where no item is left
   part : (rest : Items) → itemsFrom s at ≡ rest → ((f : Item → ℕ) (d : ℕ) → lastOf f d id rest ≡ d)
@@ -63,8 +61,8 @@ module _ (s : List ℕ) (id at start size : ℕ) (sofar : SoFar s id at start si
   unfolding dataOf
   part rest here last =
       let n : start + size - start ≡ size = omega arith in
-      let a : start ≡ startOf id (items s) = sym (last Start start) ∙ ap (lastOf Start start id) (sym here) ∙ sofar .started in
-      let b : size ≡ sizeOf id (items s) = sym (last Size size) ∙ ap (lastOf Size size id) (sym here) ∙ sofar .sized in
+      let a : start ≡ startOf (items s) id = sym (last Start start) ∙ ap (lastOf Start start id) (sym here) ∙ sofar .started in
+      let b : size ≡ sizeOf (items s) id = sym (last Size size) ∙ ap (lastOf Size size id) (sym here) ∙ sofar .sized in
       ap₂ (λ (m k : ℕ). take m (drop k s)) (n ∙ b) a
 
 abbrev Inv-loop : tie.InvT-loop

@@ -5,7 +5,6 @@ use mathlib.Core.Bool.{Bool, true, false, _&&_, and-false}
 use mathlib.Core.List.{List}
 use Prim.Native.Nat.{ℕ, _≤_, _<_}
 use native.Mathlib.Omega.{arith}
-use lib.ListN.{getD}
 use lib.Seq.{length-take-le}
 use denote.Ref.{now}
 use borrow.Author.Needs.{needs}
@@ -13,8 +12,8 @@ use borrow.Author.Tests.{le-leb, lt-leb, not-true, not-false}
 use Rattle.reason.specs.Answer.{accepted}
 use Rattle.header.specs.declared.Header.{Header}
 use Rattle.header.specs.Items.{items, countOf}
-use Rattle.header.specs.Header.{beginsRight, headerLength, mandatory, every, headerSum, valuesAgree, headerOf, endsRight, allOnce, uploadRight, valuesRight, keepsRules}
-use Rattle.header.specs.Notes.{Noted, onceNoted}
+use Rattle.header.specs.Header.{beginsRight, headerLength, mandatory, every, once, headerSum, valuesAgree, headerOf, endsRight, allOnce, uploadRight, valuesRight, keepsRules}
+use Rattle.header.specs.Notes.{noteOf, Noted}
 use Rattle.header.proofs.NoteLaws.{once-by-notes, values-by-notes, sum-by-notes, in-header, sum-in-header}
 use Rattle.header.proofs.HeaderLaws.{reads-8, reads-header}
 use Rattle.header.proofs.read_header.Statement.{statement}
@@ -50,13 +49,13 @@ module _ (s : List ℕ) (number : ℕ) where
     unfolding keepsRules
     not-ended h = no-2 (beginsRight s) (endsRight s) (allOnce s) (uploadRight s) (valuesRight s number) (lt-leb 1 (headerLength s) (omega (arith, noted .ends)))
 
-    not-once : every (onceNoted counts sizes) mandatory ≡ false → keepsRules s number ≡ false
+    not-once : every (once (noteOf counts) (noteOf sizes)) mandatory ≡ false → keepsRules s number ≡ false
     unfolding keepsRules
     not-once h = no-3 (beginsRight s) (endsRight s) (allOnce s) (uploadRight s) (valuesRight s number) (sym (once-by-notes s end counts sizes starts noted) ∙ h)
 
-    twice : 1 < getD counts 0x12 0 → keepsRules s number ≡ false
+    twice : 1 < noteOf counts 0x12 → keepsRules s number ≡ false
     unfolding keepsRules
-    twice h = no-4 (beginsRight s) (endsRight s) (allOnce s) (uploadRight s) (valuesRight s number) (lt-leb (countOf 0x12 (items s)) 1 (omega (arith, noted .counted 0x12 (omega arith))))
+    twice h = no-4 (beginsRight s) (endsRight s) (allOnce s) (uploadRight s) (valuesRight s number) (lt-leb (countOf (items s) 0x12) 1 (omega (arith, noted .counted 0x12 (omega arith))))
 
     -- what `agree` answered of the values and the sum
     module _ (h : Header) (sum : ℕ) (valued : h ≡ headerOf s) (summed : sum ≡ headerSum s) (r : Bool) (agreed : r ≡ valuesAgree h sum number) where
@@ -67,14 +66,14 @@ module _ (s : List ℕ) (number : ℕ) where
       unfolding keepsRules
       not-agreed e = no-5 (beginsRight s) (endsRight s) (allOnce s) (uploadRight s) (valuesRight s number) (agrees ∙ e)
 
-      kept : beginsRight s ≡ true → 0 < end → every (onceNoted counts sizes) mandatory ≡ true → getD counts 0x12 0 ≤ 1 → r ≡ true
+      kept : beginsRight s ≡ true → 0 < end → every (once (noteOf counts) (noteOf sizes)) mandatory ≡ true → noteOf counts 0x12 ≤ 1 → r ≡ true
           → keepsRules s number ≡ true
       unfolding keepsRules
       kept b e o u a =
           all-5 (beginsRight s) (endsRight s) (allOnce s) (uploadRight s) (valuesRight s number) b
           (le-leb 1 (headerLength s) (omega (arith, noted .ends)))
           (sym (once-by-notes s end counts sizes starts noted) ∙ o)
-          (le-leb (countOf 0x12 (items s)) 1 (omega (arith, noted .counted 0x12 (omega arith))))
+          (le-leb (countOf (items s) 0x12) 1 (omega (arith, noted .counted 0x12 (omega arith))))
           (agrees ∙ a)
 
 -- what the walk noted, from past it

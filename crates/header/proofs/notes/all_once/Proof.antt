@@ -13,14 +13,14 @@ use borrow.Author.Needs.{needs}
 use borrow.Author.Tests.{not-true, not-false}
 use Rattle.header.specs.declared.Pair.{Pair}
 use Rattle.header.specs.Items.{mandatoryItems}
-use Rattle.header.specs.Header.{mandatory, every}
-use Rattle.header.specs.Notes.{onceNoted}
+use Rattle.header.specs.Header.{mandatory, every, once}
+use Rattle.header.specs.Notes.{noteOf}
 use Rattle.header.proofs.TableLaws.{below, in-list, eleven}
 use Rattle.header.proofs.notes.all_once.Statement.{statement}
 use Rattle.header.proofs.notes.all_once.Tie as tie
 
 abbrev Inv-loop : tie.InvT-loop
-Inv-loop counts sizes table k₀ k = (k ≤ 11) × (every (onceNoted counts sizes) (drop k mandatory) ≡ every (onceNoted counts sizes) mandatory)
+Inv-loop counts sizes table k₀ k = (k ≤ 11) × (every (once (noteOf counts) (noteOf sizes)) (drop k mandatory) ≡ every (once (noteOf counts) (noteOf sizes)) mandatory)
 
 abbrev μ-loop : tie.MeasureT-loop
 μ-loop counts sizes table k₀ k = 11 - k
@@ -47,11 +47,11 @@ inside k h = below (getD mandatory k nothing) (in-list mandatory nothing k (omeg
 
 -- the test of one pair
 abbrev Test : tie.At-loop Inv-loop μ-loop → Pair → Bool
-Test c = onceNoted (now (c .before .args .counts)) (now (c .before .args .sizes))
+Test c = once (noteOf (now (c .before .args .counts))) (noteOf (now (c .before .args .sizes)))
 
 -- what `once` answered is about the definition's pair
 answered : (c : tie.After-once Inv-loop μ-loop)
-    → c .once .result ≡ onceNoted (now (c .before .before .before .before .args .counts)) (now (c .before .before .before .before .args .sizes)) (getD mandatory (c .before .before .before .loop .k) nothing)
+    → c .once .result ≡ Test (c .before .before .before) (getD mandatory (c .before .before .before .loop .k) nothing)
 unfolding mandatoryItems nothing
 answered c = c .once .ensures
 

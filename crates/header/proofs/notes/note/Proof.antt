@@ -3,18 +3,18 @@
 use mathlib.Core.Path.{_≡_}
 use mathlib.Core.List.{List}
 use Prim.Native.Nat.{ℕ, _+_, _≤_, _<_}
-use lib.ListN.{getD, set}
+use lib.ListN.{set}
 use denote.Ref.{now}
 use borrow.Author.Tests.{lt-ltb, le-ltb}
-use Rattle.header.specs.Notes.{withMark}
+use Rattle.header.specs.Notes.{places, noteOf, withNote}
 use borrow.Author.Needs.{needs}
 use Rattle.header.proofs.notes.note.Statement.{statement}
 use Rattle.header.proofs.notes.note.Tie as tie
 
-marked : (notes : List ℕ) (id v : ℕ) → id < 19 → set notes id v ≡ withMark notes id v
+marked : (notes : List ℕ) (id v : ℕ) → id < places → set notes id v ≡ withNote notes id v
 marked notes id v h = simp (lt-ltb _ _ h)
 
-kept : (notes : List ℕ) (id v : ℕ) → 19 ≤ id → notes ≡ withMark notes id v
+kept : (notes : List ℕ) (id v : ℕ) → places ≤ id → notes ≡ withNote notes id v
 kept notes id v h = simp (le-ltb _ _ h)
 
 cast-id : tie.Need-cast-id
@@ -48,7 +48,7 @@ returns : tie.Need-returns
 returns c =
     let a = c .before .before .before .args in
     let h = c .before .if1 .taken in
-    (marked (now (a .counts)) (a .item .id) (getD (now (a .counts)) (a .item .id) 0 + 1) h, (marked (now (a .sizes)) (a .item .id) (a .item .size) h, marked (now (a .starts)) (a .item .id) (a .item .start) h))
+    (marked (now (a .counts)) (a .item .id) (noteOf (now (a .counts)) (a .item .id) + 1) h, (marked (now (a .sizes)) (a .item .id) (a .item .size) h, marked (now (a .starts)) (a .item .id) (a .item .start) h))
 
 returns-2 : tie.Need-returns-2
 returns-2 c = (kept _ _ _ (c .if1 .left), (kept _ _ _ (c .if1 .left), kept _ _ _ (c .if1 .left)))

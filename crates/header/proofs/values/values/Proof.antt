@@ -3,7 +3,6 @@
 use mathlib.Core.Path.{_≡_}
 use mathlib.Core.List.{List}
 use Prim.Native.Nat.{ℕ}
-use lib.ListN.{getD}
 use denote.Ref.{now}
 use borrow.Author.Needs.{needs}
 use Rattle.octets.specs.Numbers.{byteAt, numberAt}
@@ -11,25 +10,25 @@ use Rattle.header.specs.declared.Name.{Name}
 use Rattle.header.specs.declared.Extension.{Extension}
 use Rattle.header.specs.declared.Upload.{Upload}
 use Rattle.header.specs.declared.Header.{Header}
-use Rattle.header.specs.Header.{nameAt, extensionAt}
-use Rattle.header.specs.Notes.{uploadNoted, valuesNoted}
+use Rattle.header.specs.Header.{nameAt, extensionAt, uploadBy, valuesBy}
+use Rattle.header.specs.Notes.{noteOf}
 use Rattle.header.proofs.values.values.Statement.{statement}
 use Rattle.header.proofs.values.values.Tie as tie
 
 made : (s : List ℕ) (end : ℕ) (counts starts : List ℕ) (number : ℕ) (name : Name) (extension : Extension) (size : ℕ) (created : ℕ) (modified : ℕ) (upset : ℕ) (kind : ℕ) (bodysum : ℕ) (headersum : ℕ) (body : ℕ) (upload : Upload)
-    → number ≡ numberAt 4 s (getD starts 0x01 0)
-    → name ≡ nameAt s (getD starts 0x02 0)
-    → extension ≡ extensionAt s (getD starts 0x03 0)
-    → size ≡ numberAt 4 s (getD starts 0x04 0)
-    → created ≡ numberAt 4 s (getD starts 0x05 0)
-    → modified ≡ numberAt 4 s (getD starts 0x06 0)
-    → upset ≡ byteAt s (getD starts 0x07 0)
-    → kind ≡ byteAt s (getD starts 0x08 0)
-    → bodysum ≡ numberAt 2 s (getD starts 0x09 0)
-    → headersum ≡ numberAt 2 s (getD starts 0x0A 0)
-    → body ≡ numberAt 2 s (getD starts 0x0B 0)
-    → upload ≡ uploadNoted s (getD counts 0x12 0) (getD starts 0x12 0)
-    → _≡_ {A = Header} (record { number = number; name = name; extension = extension; size = size; created = created; modified = modified; upset = upset; kind = kind; bodysum = bodysum; headersum = headersum; body = body; upload = upload; bytes = end }) (valuesNoted s end counts starts)
+    → number ≡ numberAt 4 s (noteOf starts 0x01)
+    → name ≡ nameAt s (noteOf starts 0x02)
+    → extension ≡ extensionAt s (noteOf starts 0x03)
+    → size ≡ numberAt 4 s (noteOf starts 0x04)
+    → created ≡ numberAt 4 s (noteOf starts 0x05)
+    → modified ≡ numberAt 4 s (noteOf starts 0x06)
+    → upset ≡ byteAt s (noteOf starts 0x07)
+    → kind ≡ byteAt s (noteOf starts 0x08)
+    → bodysum ≡ numberAt 2 s (noteOf starts 0x09)
+    → headersum ≡ numberAt 2 s (noteOf starts 0x0A)
+    → body ≡ numberAt 2 s (noteOf starts 0x0B)
+    → upload ≡ uploadBy (noteOf counts 0x12) (noteOf starts 0x12) s
+    → _≡_ {A = Header} (record { number = number; name = name; extension = extension; size = size; created = created; modified = modified; upset = upset; kind = kind; bodysum = bodysum; headersum = headersum; body = body; upload = upload; bytes = end }) (valuesBy (noteOf counts) (noteOf starts) end s)
 made s end counts starts number name extension size created modified upset kind bodysum headersum body upload e1 e2 e3 e4 e5 e6 e7 e8 e9 e10 e11 e12 = rw (e1, e2, e3, e4, e5, e6, e7, e8, e9, e10, e11, e12)
 
 element-copy-out-number4 : tie.Need-element-copy-out-number4
