@@ -14,7 +14,7 @@ use Rattle.ax25.specs.Address.{isName, addressAt, wellFormed}
 use Rattle.ax25.specs.Head.{headChecks, headOf}
 use Rattle.ax25.specs.Examples.{va3sfl, va3sflBytes, uosat5, uosat5Bytes}
 use Rattle.ax25.specs.declared.Head.{Head}
-use Rattle.header.specs.declared.Upload.the-variants.{At}
+use Rattle.header.specs.declared.Upload.the-variants.{Time}
 use Rattle.header.specs.declared.Header.{Header}
 use Rattle.header.specs.Items.{mandatoryItems, knownItems, decisionOf, stepWith, stepAt, itemsFrom}
 use Rattle.header.specs.Header.{headerSum, headerOf, keepsRules, readHeader}
@@ -66,7 +66,7 @@ header32 = record {
   bodysum = 0x44FB;
   headersum = 0x0C84;
   body = 0x50;
-  upload = At 0x383C7EE0;
+  upload = Time 0x383C7EE0;
   bytes = 80;
 }
 
@@ -88,7 +88,7 @@ header33 = record {
   bodysum = 0xADEB;
   headersum = 0x0D88;
   body = 0x50;
-  upload = At 0x3841FC5A;
+  upload = Time 0x3841FC5A;
   bytes = 80;
 }
 

@@ -12,14 +12,14 @@ use Rattle.reason.proofs.OrderLaws.{skip, stop, none-left}
 use Rattle.octets.specs.Numbers.{byteAt, numberAt}
 use Rattle.remainder.specs.Check.{checkRight}
 use Rattle.frame.specs.Information.{checkLength}
-use Rattle.frame.specs.Entry.{entryHeader, flagsAllowed, headerWhole, headerRight, entryChecks}
+use Rattle.frame.specs.Entry.{beforeHeader, flagsAllowed, headerWhole, headerRight, entryChecks}
 
 module _ {A : Type 0} (s : List ℕ) (a : A) where
-  pub reads-1 : length s < entryHeader + checkLength → firstOf (entryChecks s) a ≡ refused 1
+  pub reads-1 : length s < beforeHeader + checkLength → firstOf (entryChecks s) a ≡ refused 1
   unfolding entryChecks
   reads-1 h = stop _ _ _ (lt-ltb _ _ h)
 
-  module _ (long : entryHeader + checkLength ≤ length s) where
+  module _ (long : beforeHeader + checkLength ≤ length s) where
     pub reads-6 : checkRight s ≡ false → firstOf (entryChecks s) a ≡ refused 6
     unfolding entryChecks
     reads-6 h = skip _ _ _ (le-ltb _ _ long) ∙ stop _ _ _ (ap not h)

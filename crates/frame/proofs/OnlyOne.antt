@@ -12,7 +12,7 @@ use Rattle.frame.specs.declared.Entry.{Entry}
 use Rattle.frame.specs.declared.EntryRead.{EntryRead}
 use Rattle.frame.specs.declared.EntryRead.the-variants as entry
 use Rattle.frame.specs.Piece.{readPiece, bytesRead, pieceBytes, pieceAnswer}
-use Rattle.frame.specs.Entry.{readEntry, headerBytes, entryAnswer}
+use Rattle.frame.specs.Entry.{readEntry, headerBytesRead, headerBytes, entryAnswer}
 
 -- `read_piece`
 piece-case : Answer Piece → PieceRead
@@ -27,13 +27,13 @@ piece-back (piece.Refused n) = refl
 pub only-one-piece : (frame : List ℕ) (r q : PieceRead) → pieceAnswer r ≡ readPiece frame → pieceAnswer q ≡ readPiece frame → r ≡ q
 only-one-piece frame r q = only-one-meant pieceAnswer piece-case piece-back r q
 
--- `piece_bytes` and `bytes_of`
+-- `piece_bytes` and `piece_of`
 pub only-one-piece-bytes : (frame r q : List ℕ) → r ≡ pieceBytes frame → q ≡ pieceBytes frame → r ≡ q
 only-one-piece-bytes frame r q = only-one r q
 
-pub only-one-bytes-of : (frame : List ℕ) (read : PieceRead) (r q : List ℕ) → r ≡ bytesRead (pieceAnswer read) frame
+pub only-one-piece-of : (frame : List ℕ) (read : PieceRead) (r q : List ℕ) → r ≡ bytesRead (pieceAnswer read) frame
     → q ≡ bytesRead (pieceAnswer read) frame → r ≡ q
-only-one-bytes-of frame read r q = only-one r q
+only-one-piece-of frame read r q = only-one r q
 
 -- `read_entry`
 entry-case : Answer Entry → EntryRead
@@ -48,6 +48,10 @@ entry-back (entry.Refused n) = refl
 pub only-one-entry : (frame : List ℕ) (r q : EntryRead) → entryAnswer r ≡ readEntry frame → entryAnswer q ≡ readEntry frame → r ≡ q
 only-one-entry frame r q = only-one-meant entryAnswer entry-case entry-back r q
 
--- `header_bytes`
+-- `header_bytes` and `header_of`
 pub only-one-header-bytes : (frame r q : List ℕ) → r ≡ headerBytes frame → q ≡ headerBytes frame → r ≡ q
 only-one-header-bytes frame r q = only-one r q
+
+pub only-one-header-of : (frame : List ℕ) (read : EntryRead) (r q : List ℕ) → r ≡ headerBytesRead (entryAnswer read) frame
+    → q ≡ headerBytesRead (entryAnswer read) frame → r ≡ q
+only-one-header-of frame read r q = only-one r q

@@ -13,14 +13,14 @@ use Rattle.reason.proofs.OrderLaws.{skip, stop, none-left}
 use Rattle.octets.specs.Numbers.{byteAt}
 use Rattle.remainder.specs.Check.{checkRight}
 use Rattle.frame.specs.Information.{checkLength}
-use Rattle.frame.specs.Piece.{pieceHeader, pieceFlags, pieceChecks}
+use Rattle.frame.specs.Piece.{beforeData, pieceFlags, pieceChecks}
 
 module _ {A : Type 0} (s : List ℕ) (a : A) where
-  pub reads-1 : length s < pieceHeader + checkLength → firstOf (pieceChecks s) a ≡ refused 1
+  pub reads-1 : length s < beforeData + checkLength → firstOf (pieceChecks s) a ≡ refused 1
   unfolding pieceChecks
   reads-1 h = stop _ _ _ (lt-ltb _ _ h)
 
-  module _ (long : pieceHeader + checkLength ≤ length s) where
+  module _ (long : beforeData + checkLength ≤ length s) where
     pub reads-6 : checkRight s ≡ false → firstOf (pieceChecks s) a ≡ refused 6
     unfolding pieceChecks
     reads-6 h = skip _ _ _ (le-ltb _ _ long) ∙ stop _ _ _ (ap not h)
@@ -31,12 +31,12 @@ module _ {A : Type 0} (s : List ℕ) (a : A) where
       reads-5 h = skip _ _ _ (le-ltb _ _ long) ∙ skip _ _ _ (ap not right) ∙ stop _ _ _ (ap not (ne-eqb _ _ h))
 
       module _ (flagged : byteAt s 0 ≡ pieceFlags) where
-        past-5 : firstOf (pieceChecks s) a ≡ firstOf (check (eqb (length s) (pieceHeader + checkLength)) 7 ∷ []) a
+        past-5 : firstOf (pieceChecks s) a ≡ firstOf (check (eqb (length s) (beforeData + checkLength)) 7 ∷ []) a
         unfolding pieceChecks
         past-5 = skip _ _ _ (le-ltb _ _ long) ∙ skip _ _ _ (ap not right) ∙ skip _ _ _ (ap not (eq-eqb _ _ flagged))
 
-        pub reads-7 : length s ≡ pieceHeader + checkLength → firstOf (pieceChecks s) a ≡ refused 7
+        pub reads-7 : length s ≡ beforeData + checkLength → firstOf (pieceChecks s) a ≡ refused 7
         reads-7 h = past-5 ∙ stop _ _ _ (eq-eqb _ _ h)
 
-        pub reads-piece : (length s ≡ pieceHeader + checkLength → ⊥) → firstOf (pieceChecks s) a ≡ accepted a
+        pub reads-piece : (length s ≡ beforeData + checkLength → ⊥) → firstOf (pieceChecks s) a ≡ accepted a
         reads-piece h = past-5 ∙ skip _ _ _ (ne-eqb _ _ h) ∙ none-left _

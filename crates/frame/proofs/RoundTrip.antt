@@ -145,13 +145,13 @@ module _ (frame : List ℕ) (p : Piece) (a : AllBytes frame) (e : readPiece fram
   abbrev N : ℕ
   N = length frame - 27
 
-  bytes-of-information : AllBytes (informationOf frame)
-  bytes-of-information i = omega (arith, getD-drop 16 frame i 0, a (16 + i))
+  piece-of-information : AllBytes (informationOf frame)
+  piece-of-information i = omega (arith, getD-drop 16 frame i 0, a (16 + i))
 
   before-and-rest : pieceBefore p ++ Rest ≡ informationOf frame
   before-and-rest =
       ap (λ (q : Piece). pieceBefore q ++ Rest) (Said .is)
-      ∙ nine (informationOf frame) (headOf frame) bytes-of-information (omega (arith, length-drop 16 frame, Said .size)) (getD-drop 16 frame 0 0 ∙ Said .flags)
+      ∙ nine (informationOf frame) (headOf frame) piece-of-information (omega (arith, length-drop 16 frame, Said .size)) (getD-drop 16 frame 0 0 ∙ Said .flags)
 
   bytes-and-check : pieceBytes frame ++ getD Rest N 0 ∷ getD Rest (N + 1) 0 ∷ [] ≡ Rest
   bytes-and-check =
@@ -165,7 +165,7 @@ module _ (frame : List ℕ) (p : Piece) (a : AllBytes frame) (e : readPiece fram
       ∙ before-and-rest
 
   small : (k : ℕ) → getD Rest k 0 < 256
-  small k = omega (arith, getD-drop 9 (informationOf frame) k 0, bytes-of-information (9 + k))
+  small k = omega (arith, getD-drop 9 (informationOf frame) k 0, piece-of-information (9 + k))
 
   information-is : pieceInformation p (pieceBytes frame) ≡ informationOf frame
   information-is =

@@ -19,13 +19,13 @@ use Rattle.remainder.specs.Check.{checkRight}
 use Rattle.ax25.specs.Head.{headLength, headChecks, headOf, readHead}
 use Rattle.ax25.proofs.HeadLaws.{HeadSays, head-says}
 use Rattle.header.specs.Header.{headerLength, headerOf, keepsRules}
-use Rattle.header.specs.Rules.{Rules}
-use Rattle.header.proofs.RulesKept.{rules}
+use Rattle.header.proofs.HeaderLaws.{reads-header, told-length}
+use Rattle.header.proofs.Says.{HeaderSays, header-says}
 use Rattle.frame.specs.declared.Piece.{Piece}
 use Rattle.frame.specs.declared.Entry.{Entry}
 use Rattle.frame.specs.Information.{file, directory, checkLength, informationOf}
-use Rattle.frame.specs.Piece.{pieceHeader, pieceFlags, pieceChecks, pieceFields, pieceOf, readPiece, pieceData, pieceBytes, bytesRead}
-use Rattle.frame.specs.Entry.{flagsAllowed, headerWhole, headerPart, headerRight, entryChecks, entryFields, entryOf, readEntry}
+use Rattle.frame.specs.Piece.{beforeData, pieceFlags, pieceChecks, pieceFields, pieceOf, readPiece, pieceData, pieceBytes, bytesRead}
+use Rattle.frame.specs.Entry.{flagsAllowed, headerWhole, headerPart, headerRight, entryChecks, entryFields, entryOf, readEntry, headerBytesRead, headerBytes}
 
 -- a byte and a number of the information, at their places in the frame
 byte-in : (frame : List ℕ) (at : ℕ) → byteAt (informationOf frame) at ≡ byteAt frame (headLength + at)
@@ -61,8 +61,8 @@ piece-says frame p e =
     let none = all .0 in
     let is : p ≡ pieceOf frame = all .1 in
     let head = head-says file frame (headOf frame) (two .0) in
-    let long : pieceHeader + checkLength ≤ length s = ltb-false (length s) (pieceHeader + checkLength) (none .0) in
-    let more : length s ≡ pieceHeader + checkLength → ⊥ = eqb-false (length s) (pieceHeader + checkLength) (none .1 .1 .1 .0) in
+    let long : beforeData + checkLength ≤ length s = ltb-false (length s) (beforeData + checkLength) (none .0) in
+    let more : length s ≡ beforeData + checkLength → ⊥ = eqb-false (length s) (beforeData + checkLength) (none .1 .1 .1 .0) in
     let all-of-it : length s ≡ length frame - 16 = length-drop 16 frame in
     let bytes : pieceBytes frame ≡ pieceData frame = ap (λ (r : Answer Piece). bytesRead r frame) e in
     let part : length (pieceData frame) ≡ length frame - 27 = length-take-le (length frame - 27) (drop 25 frame) (omega (arith, length-drop 25 frame)) in
@@ -95,9 +95,9 @@ pub record EntrySays (frame : List ℕ) (e : Entry) : Type 0 where
   pub old : e .old ≡ numberAt 4 frame 25
   pub new : e .new ≡ numberAt 4 frame 29
   pub checked : checkRight (informationOf frame) ≡ true
-  pub ruled : Rules (headerPart (informationOf frame)) (e .number)
-  pub alone : headerLength (headerPart (informationOf frame)) ≡ length (headerPart (informationOf frame))
-  pub header : e .header ≡ headerOf (headerPart (informationOf frame))
+  pub bytes : headerBytes frame ≡ headerPart (informationOf frame)
+  pub header : HeaderSays (headerBytes frame) (e .number) (e .header)
+  pub alone : e .header .bytes ≡ length (headerBytes frame)
 
 pub entry-says : (frame : List ℕ) (e : Entry) → readEntry frame ≡ accepted e → EntrySays frame e
 unfolding readEntry entryChecks entryFields
@@ -113,6 +113,7 @@ entry-says frame e r =
     let right : headerRight s ≡ true = not-false (headerRight s) (none .1 .1 .1 .1 .0) in
     let k = keepsRules (headerPart s) (numberAt 4 s 1) in
     let a = eqb (headerLength (headerPart s)) (length (headerPart s)) in
+    let part : headerBytes frame ≡ headerPart s = ap (λ (x : Answer Entry). headerBytesRead x frame) r in
     rw is (record {
       head = head-says directory frame (headOf frame) (two .0);
       flags = byte-in frame 0;
@@ -123,9 +124,9 @@ entry-says frame e r =
       old = number-in 4 frame 9;
       new = number-in 4 frame 13;
       checked = not-false _ (none .1 .0);
-      ruled = rules (headerPart s) (numberAt 4 s 1) (and-left k a right);
-      alone = eqb-true _ _ (and-right k a right);
-      header = refl;
+      bytes = part;
+      header = rw part (header-says (headerPart s) (numberAt 4 s 1) (headerOf (headerPart s)) (reads-header (headerPart s) (numberAt 4 s 1) (and-left k a right)));
+      alone = told-length (headerPart s) ∙ eqb-true _ _ (and-right k a right) ∙ ap length (sym part);
     })
 
 -- No frame is both: the protocol tells a piece and an entry apart. (A piece and a request share the protocol; there the flags do:

@@ -17,9 +17,9 @@ use Rattle.frame.specs.declared.EntryRead.{EntryRead}
 use Rattle.frame.specs.declared.EntryRead.the-variants.{Accepted, Refused}
 use Rattle.frame.specs.Information.{directory, checkLength, informationOf}
 
--- the bytes before the file header: flags, number, offset, time old and time new
-abbrev pub entryHeader : ℕ
-entryHeader = 17
+-- how many bytes stand before the file header: flags, number, offset, time old and time new
+abbrev pub beforeHeader : ℕ
+beforeHeader = 17
 
 -- flag bits 5 and 6 are free, the others 0
 abbrev pub flagsAllowed : ℕ → Bool
@@ -31,7 +31,7 @@ headerWhole flags offset = eqb (flags / 32 % 2) 1 && eqb offset 0
 
 -- the bytes of the information between time new and the check bytes
 abbrev pub headerPart : List ℕ → List ℕ
-headerPart s = take (length s - checkLength - entryHeader) (drop entryHeader s)
+headerPart s = take (length s - checkLength - beforeHeader) (drop beforeHeader s)
 
 -- they are a header of the file with the entry's number, and nothing follows its end
 abbrev pub headerRight : List ℕ → Bool
@@ -40,7 +40,7 @@ headerRight s = keepsRules (headerPart s) (numberAt 4 s 1) && eqb (headerLength 
 -- "Order in a frame", of the information of an entry: 1 (information), 6, 5, 14, 8
 unfoldable pub entryChecks : List ℕ → List Check
 entryChecks s =
-    check (ltb (length s) (entryHeader + checkLength)) 1
+    check (ltb (length s) (beforeHeader + checkLength)) 1
     ∷ check (not (checkRight s)) 6
     ∷ check (not (flagsAllowed (byteAt s 0))) 5
     ∷ check (not (headerWhole (byteAt s 0) (numberAt 4 s 5))) 14
@@ -72,13 +72,13 @@ unfoldable pub readEntry : List ℕ → Answer Entry
 readEntry frame = firstOf (entryOrder frame) (entryOf frame)
 
 -- the header of an entry that was read: no bytes if it was refused
-abbrev pub headerRead : Answer Entry → List ℕ → List ℕ
-headerRead (accepted e) frame = headerPart (informationOf frame)
-headerRead (refused n) frame = []
+abbrev pub headerBytesRead : Answer Entry → List ℕ → List ℕ
+headerBytesRead (accepted e) frame = headerPart (informationOf frame)
+headerBytesRead (refused n) frame = []
 
 -- an entry's file header itself
 abbrev pub headerBytes : List ℕ → List ℕ
-headerBytes frame = headerRead (readEntry frame) frame
+headerBytes frame = headerBytesRead (readEntry frame) frame
 
 -- the paper's number and values for each case of `read_entry`'s answer
 abbrev pub entryAnswer : EntryRead → Answer Entry

@@ -12,7 +12,7 @@ file = 0xBB
 abbrev pub directory : ℕ
 directory = 0xBD
 
--- the check bytes at the end of the information
+-- how many check bytes stand at the end of the information
 abbrev pub checkLength : ℕ
 checkLength = 2
 

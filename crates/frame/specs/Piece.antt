@@ -16,9 +16,9 @@ use Rattle.frame.specs.declared.PieceRead.{PieceRead}
 use Rattle.frame.specs.declared.PieceRead.the-variants.{Accepted, Refused}
 use Rattle.frame.specs.Information.{file, checkLength, informationOf}
 
--- the bytes before the data: flags, number, type and offset
-abbrev pub pieceHeader : ℕ
-pieceHeader = 9
+-- how many bytes stand before the data: flags, number, type and offset
+abbrev pub beforeData : ℕ
+beforeData = 9
 
 -- the flags of every piece
 abbrev pub pieceFlags : ℕ
@@ -27,10 +27,10 @@ pieceFlags = 0x02
 -- "Order in a frame", of the information of a piece: 1 (information), 6, 5, 7 (no data)
 unfoldable pub pieceChecks : List ℕ → List Check
 pieceChecks s =
-    check (ltb (length s) (pieceHeader + checkLength)) 1
+    check (ltb (length s) (beforeData + checkLength)) 1
     ∷ check (not (checkRight s)) 6
     ∷ check (not (eqb (byteAt s 0) pieceFlags)) 5
-    ∷ check (eqb (length s) (pieceHeader + checkLength)) 7
+    ∷ check (eqb (length s) (beforeData + checkLength)) 7
     ∷ []
 
 -- what the information of a piece says, behind a head
@@ -51,7 +51,7 @@ readPiece frame = firstOf (pieceOrder frame) (pieceOf frame)
 
 -- the frame's bytes between the nine header bytes and the two check bytes
 abbrev pub pieceData : List ℕ → List ℕ
-pieceData frame = take (length frame - (headLength + pieceHeader + checkLength)) (drop (headLength + pieceHeader) frame)
+pieceData frame = take (length frame - (headLength + beforeData + checkLength)) (drop (headLength + beforeData) frame)
 
 -- the bytes of a piece that was read: none if it was refused
 abbrev pub bytesRead : Answer Piece → List ℕ → List ℕ

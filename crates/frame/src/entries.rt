@@ -1,18 +1,29 @@
 // The information of a directory entry.
+use super::CHECK_LENGTH;
 use super::Entry;
 use super::EntryRead;
 use ax25::Head;
 use header::HeaderRead;
 ghost use mathlib.Core.Path.{_≡_};
-ghost use lib.ListN.{drop};
 ghost use Rattle.reason.specs.Order.{firstOf};
+ghost use Rattle.frame.specs.Information.{informationOf};
 ghost use Rattle.frame.specs.Entry.{flagsAllowed, headerWhole, entryChecks, entryFields, entryAnswer, headerPart};
+
+// How many bytes stand before the file header; the information of an entry with an empty header; where
+// the header starts in a frame, and how many bytes a frame with an empty header has.
+const BEFORE_HEADER: usize = 17;
+
+const LEAST: usize = 19;
+
+const HEADER_AT: usize = 33;
+
+const NO_HEADER: usize = 35;
 
 // Reads the information of a frame with the head; refuses 1, 6, 5, 14, 8.
 pub(crate) fn read(s: &[u8], head: Head) -> EntryRead
     ensures { λ r. ⌜ entryAnswer r ≡ firstOf (entryChecks (now (s .entry))) (entryFields head (now (s .entry))) ⌝ }
 {
-    if s.len() < 19 {
+    if s.len() < LEAST {
         return EntryRead::Refused(1);
     }
     if !remainder::check_right(s) {
@@ -31,11 +42,11 @@ pub(crate) fn read(s: &[u8], head: Head) -> EntryRead
     let number = octets::number4(s, 1);
     let old = octets::number4(s, 9);
     let new = octets::number4(s, 13);
-    let end = s.len() - 2;
-    let HeaderRead::Accepted(header) = header::read_header(&s[17..end], number) else {
+    let end = s.len() - CHECK_LENGTH;
+    let HeaderRead::Accepted(header) = header::read_header(&s[BEFORE_HEADER..end], number) else {
         return EntryRead::Refused(8);
     };
-    if header.bytes != end - 17 {
+    if header.bytes != end - BEFORE_HEADER {
         return EntryRead::Refused(8);
     }
     EntryRead::Accepted(Entry {
@@ -51,13 +62,13 @@ pub(crate) fn read(s: &[u8], head: Head) -> EntryRead
 
 // The bytes of a frame between time new and the two check bytes.
 pub(crate) fn between(frame: &[u8]) -> &[u8]
-    ensures { λ r. ⌜ now r ≡ headerPart (drop 16 (now (frame .entry))) ⌝ }
+    ensures { λ r. ⌜ now r ≡ headerPart (informationOf (now (frame .entry))) ⌝ }
 {
-    if frame.len() < 35 {
+    if frame.len() < NO_HEADER {
         return &frame[0..0];
     }
-    let end = frame.len() - 2;
-    &frame[33..end]
+    let end = frame.len() - CHECK_LENGTH;
+    &frame[HEADER_AT..end]
 }
 
 // Whether no bit is set but bits 5 and 6, which are free.

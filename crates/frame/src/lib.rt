@@ -9,17 +9,21 @@
 mod entries;
 mod pieces;
 
+use ax25::HEAD_LENGTH;
 use ax25::Head;
 use ax25::HeadRead;
 use header::Header;
 ghost use mathlib.Core.Path.{_≡_};
 ghost use Rattle.frame.specs.Piece.{pieceAnswer, readPiece, pieceBytes, bytesRead};
-ghost use Rattle.frame.specs.Entry.{entryAnswer, readEntry, headerBytes};
+ghost use Rattle.frame.specs.Entry.{entryAnswer, readEntry, headerBytes, headerBytesRead};
 
 // The protocols: of file pieces and of directory entries.
 pub const FILE: u8 = 0xBB;
 
 pub const DIRECTORY: u8 = 0xBD;
+
+// How many check bytes stand at the end of the information.
+const CHECK_LENGTH: usize = 2;
 
 // A file piece's fields: both addresses, the file's number and type, and the place of the piece's first
 // byte in the file.
@@ -60,7 +64,7 @@ pub fn read_piece(frame: &[u8]) -> PieceRead
     ensures { λ r. ⌜ pieceAnswer r ≡ readPiece (now (frame .entry)) ⌝ }
 {
     match ax25::read_head(frame, FILE) {
-        HeadRead::Accepted(head) => pieces::read(&frame[16..], head),
+        HeadRead::Accepted(head) => pieces::read(&frame[HEAD_LENGTH..], head),
         HeadRead::Refused(n) => PieceRead::Refused(n),
     }
 }
@@ -71,12 +75,12 @@ pub fn piece_bytes(frame: &[u8]) -> &[u8]
     ensures { λ r. ⌜ now r ≡ pieceBytes (now (frame .entry)) ⌝ }
 {
     let read = read_piece(frame);
-    bytes_of(frame, read)
+    piece_of(frame, read)
 }
 
-// The same for a frame that `read_piece` has read, whose answer is handed in, so that the check is not
-// worked out again.
-pub fn bytes_of(frame: &[u8], read: PieceRead) -> &[u8]
+// The same for a frame that `read_piece` has read: its answer is handed in, and the check is not worked
+// out again. By the answer of another frame it hands out what stands at those places here.
+pub fn piece_of(frame: &[u8], read: PieceRead) -> &[u8]
     ensures { λ r. ⌜ now r ≡ bytesRead (pieceAnswer read) (now (frame .entry)) ⌝ }
 {
     match read {
@@ -91,7 +95,7 @@ pub fn read_entry(frame: &[u8]) -> EntryRead
     ensures { λ r. ⌜ entryAnswer r ≡ readEntry (now (frame .entry)) ⌝ }
 {
     match ax25::read_head(frame, DIRECTORY) {
-        HeadRead::Accepted(head) => entries::read(&frame[16..], head),
+        HeadRead::Accepted(head) => entries::read(&frame[HEAD_LENGTH..], head),
         HeadRead::Refused(n) => EntryRead::Refused(n),
     }
 }
@@ -101,7 +105,16 @@ pub fn read_entry(frame: &[u8]) -> EntryRead
 pub fn header_bytes(frame: &[u8]) -> &[u8]
     ensures { λ r. ⌜ now r ≡ headerBytes (now (frame .entry)) ⌝ }
 {
-    match read_entry(frame) {
+    let read = read_entry(frame);
+    header_of(frame, read)
+}
+
+// The same for a frame that `read_entry` has read: its answer is handed in, and the frame is not read
+// again. By the answer of another frame it hands out what stands at those places here.
+pub fn header_of(frame: &[u8], read: EntryRead) -> &[u8]
+    ensures { λ r. ⌜ now r ≡ headerBytesRead (entryAnswer read) (now (frame .entry)) ⌝ }
+{
+    match read {
         EntryRead::Accepted(_) => entries::between(frame),
         EntryRead::Refused(_) => &frame[0..0],
     }

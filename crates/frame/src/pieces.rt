@@ -1,4 +1,5 @@
 // The information of a file piece.
+use super::CHECK_LENGTH;
 use super::Piece;
 use super::PieceRead;
 use ax25::Head;
@@ -6,20 +7,30 @@ ghost use mathlib.Core.Path.{_≡_};
 ghost use Rattle.reason.specs.Order.{firstOf};
 ghost use Rattle.frame.specs.Piece.{pieceChecks, pieceFields, pieceAnswer, pieceData};
 
+// The flags of every piece; the information of a piece without data: nine header bytes and the check;
+// where the data start in a frame, and how many bytes a frame without data has.
+const FLAGS: u8 = 0x02;
+
+const LEAST: usize = 11;
+
+const DATA_AT: usize = 25;
+
+const NO_DATA: usize = 27;
+
 // Reads the information of a frame with the head; refuses 1, 6, 5, 7.
 pub(crate) fn read(s: &[u8], head: Head) -> PieceRead
     ensures { λ r. ⌜ pieceAnswer r ≡ firstOf (pieceChecks (now (s .entry))) (pieceFields head (now (s .entry))) ⌝ }
 {
-    if s.len() < 11 {
+    if s.len() < LEAST {
         return PieceRead::Refused(1);
     }
     if !remainder::check_right(s) {
         return PieceRead::Refused(6);
     }
-    if s[0] != 0x02 {
+    if s[0] != FLAGS {
         return PieceRead::Refused(5);
     }
-    if s.len() == 11 {
+    if s.len() == LEAST {
         return PieceRead::Refused(7);
     }
     let number = octets::number4(s, 1);
@@ -37,9 +48,9 @@ pub(crate) fn read(s: &[u8], head: Head) -> PieceRead
 pub(crate) fn between(frame: &[u8]) -> &[u8]
     ensures { λ r. ⌜ now r ≡ pieceData (now (frame .entry)) ⌝ }
 {
-    if frame.len() < 27 {
+    if frame.len() < NO_DATA {
         return &frame[0..0];
     }
-    let end = frame.len() - 2;
-    &frame[25..end]
+    let end = frame.len() - CHECK_LENGTH;
+    &frame[DATA_AT..end]
 }

@@ -12,11 +12,11 @@ use Rattle.frame.proofs.piece_bytes.Tie as tie
 read-piece-requires : tie.Need-read-piece-requires
 read-piece-requires c κs = search needs
 
-bytes-of-requires : tie.Need-bytes-of-requires
-bytes-of-requires c κs = search needs
+piece-of-requires : tie.Need-piece-of-requires
+piece-of-requires c κs = search needs
 
 returns : tie.Need-returns
-returns c = let a = c .before .before .before .args in c .bytes-of .ensures ∙ ap (λ (r : Answer Piece). bytesRead r (now (a .frame))) (c .before .read-piece .ensures)
+returns c = let a = c .before .before .before .args in c .piece-of .ensures ∙ ap (λ (r : Answer Piece). bytesRead r (now (a .frame))) (c .before .read-piece .ensures)
 
 pub piece-bytes-spec : {M : Type 1} → statement M
-piece-bytes-spec = tie.close (tie.spec read-piece-requires bytes-of-requires returns)
+piece-bytes-spec = tie.close (tie.spec read-piece-requires piece-of-requires returns)

@@ -1,12 +1,12 @@
--- `frame::bytes_of` meets its contract: by the case of the answer that is handed in.
+-- `frame::header_of` meets its contract: by the case of the answer that is handed in.
 -- Assumes nothing.
 use mathlib.Core.Path.{sym, ap, _∙_}
 use denote.Ref.{now}
 use borrow.Author.Needs.{needs}
-use Rattle.frame.specs.declared.PieceRead.{PieceRead}
-use Rattle.frame.specs.Piece.{pieceAnswer, bytesRead}
-use Rattle.frame.proofs.bytes_of.Statement.{statement}
-use Rattle.frame.proofs.bytes_of.Tie as tie
+use Rattle.frame.specs.declared.EntryRead.{EntryRead}
+use Rattle.frame.specs.Entry.{entryAnswer, headerBytesRead}
+use Rattle.frame.proofs.header_of.Statement.{statement}
+use Rattle.frame.proofs.header_of.Tie as tie
 
 enum-told : tie.Need-enum-told
 enum-told c = search needs
@@ -29,13 +29,13 @@ part-result-end c = search needs
 returns : tie.Need-returns
 returns c =
     let a = c .before .before .before .before .args in
-    c .between .ensures ∙ sym (ap (λ (r : PieceRead). bytesRead (pieceAnswer r) (now (a .frame))) (c .before .enum-told .given .1))
+    c .between .ensures ∙ sym (ap (λ (r : EntryRead). headerBytesRead (entryAnswer r) (now (a .frame))) (c .before .enum-told .given .1))
 
 returns-2 : tie.Need-returns-2
 returns-2 c = search needs
 
-pub bytes-of-spec : {M : Type 1} → statement M
-bytes-of-spec =
+pub header-of-spec : {M : Type 1} → statement M
+header-of-spec =
     tie.close
     (tie.spec
     enum-told
