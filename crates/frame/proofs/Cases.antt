@@ -2,13 +2,13 @@
 -- Assumes nothing.
 use mathlib.Core.Path.{_≡_, refl}
 use mathlib.Core.List.{List, [], _∷_, _++_}
-use Prim.Native.Nat.{ℕ, _/_, _%_}
+use Prim.Native.Nat.{ℕ}
 use lib.ListN.{take, drop, set, replicate}
 use Rattle.reason.specs.Answer.{accepted, refused}
 use Rattle.reason.specs.Order.{firstOf}
 use Rattle.octets.specs.Runs.{putIn}
 use Rattle.remainder.specs.Remainder.{withBit, withBits, messageBits, remainderOf}
-use Rattle.remainder.specs.Check.{checkRight}
+use Rattle.remainder.specs.Check.{checkRight, withCheck}
 use Rattle.remainder.specs.Figure.{figure32}
 use Rattle.ax25.specs.Address.{isName, addressAt, wellFormed}
 use Rattle.ax25.specs.Head.{headChecks, headOf}
@@ -30,10 +30,6 @@ framed protocol s = va3sflBytes ++ uosat5Bytes 0x77 ++ 0x03 ∷ protocol ∷ [] 
 abbrev fromUosat5 : Head
 fromUosat5 = record { destination = va3sfl; source = uosat5 11 }
 
--- information with its right check behind it
-abbrev checked : List ℕ → List ℕ
-checked s = s ++ remainderOf s / 256 ∷ remainderOf s % 256 ∷ []
-
 -- the nine header bytes of a piece of file 7, type 0, with the flags and the three bytes of the offset
 abbrev nine : ℕ → ℕ → ℕ → ℕ → List ℕ
 nine flags low middle high = flags ∷ 0x07 ∷ 0x00 ∷ 0x00 ∷ 0x00 ∷ 0x00 ∷ low ∷ middle ∷ high ∷ []
@@ -50,7 +46,7 @@ abbrev entry32 : List ℕ
 entry32 = framed 0xBD (figure32 ++ 0x9D ∷ 0x3D ∷ [])
 
 abbrev changed : ℕ → ℕ → List ℕ
-changed at b = framed 0xBD (checked (set figure32 at b))
+changed at b = framed 0xBD (withCheck (set figure32 at b))
 
 -- the values of figure 3.2's header
 abbrev header32 : Header
@@ -73,6 +69,36 @@ header32 = record {
 -- those of figure 3.2, with the flags as given
 abbrev values32 : ℕ → Entry
 values32 flags = record { head = fromUosat5; flags = flags; number = 0xAE67; offset = 0; old = 0x383C7EE0; new = 0x383DCFEE; header = header32 }
+
+-- figure 3.2 with bytes that all differ in flags, number, times and item 01, and the sum to match
+abbrev entry-of-bytes : List ℕ
+entry-of-bytes =
+    0x60 ∷ 0x67 ∷ 0xAE ∷ 0x02 ∷ 0x01 ∷ 0x00 ∷ 0x00 ∷ 0x00 ∷ 0x00 ∷ 0x11 ∷ 0x12 ∷ 0x13 ∷ 0x14 ∷ 0x21 ∷ 0x22 ∷ 0x23 ∷ 0x24 ∷ [] ++ set (set (set (drop 17 figure32) 7 0x02) 8 0x01) 70 0x87
+
+abbrev values-of-bytes : Entry
+values-of-bytes = record {
+  head = fromUosat5;
+  flags = 0x60;
+  number = 0x0102AE67;
+  offset = 0;
+  old = 0x14131211;
+  new = 0x24232221;
+  header = record {
+    number = 0x0102AE67;
+    name = header32 .name;
+    extension = header32 .extension;
+    size = header32 .size;
+    created = header32 .created;
+    modified = header32 .modified;
+    upset = header32 .upset;
+    kind = header32 .kind;
+    bodysum = header32 .bodysum;
+    headersum = 0x0C87;
+    body = header32 .body;
+    upload = header32 .upload;
+    bytes = header32 .bytes;
+  };
+}
 
 -- the values of the header that figure 3.3's piece begins with
 abbrev header33 : Header
@@ -98,12 +124,13 @@ pub record Cases : Type 0 where
   pub with-a-byte : readPiece one-byte ≡ accepted (record { head = fromUosat5; number = 7; kind = 0; offset = 0 })
   pub byte-handed-out : pieceBytes one-byte ≡ 0x41 ∷ []
   pub check-low-byte-first : readPiece (framed 0xBB (nine 0x02 0x00 0x00 0x00 ++ 0x41 ∷ 0xC4 ∷ 0x37 ∷ [])) ≡ refused 6
-  pub offset-of-three-bytes : readPiece (framed 0xBB (checked (nine 0x02 0x00 0x00 0x01 ++ 0x41 ∷ []))) ≡ accepted (record { head = fromUosat5; number = 7; kind = 0; offset = 65536 })
+  pub offset-of-three-bytes : readPiece (framed 0xBB (withCheck (nine 0x02 0x00 0x00 0x01 ++ 0x41 ∷ []))) ≡ accepted (record { head = fromUosat5; number = 7; kind = 0; offset = 65536 })
+  pub all-bytes-told : readPiece (framed 0xBB (withCheck (0x02 ∷ 0x04 ∷ 0x03 ∷ 0x02 ∷ 0x01 ∷ 0x05 ∷ 0x08 ∷ 0x07 ∷ 0x06 ∷ 0x41 ∷ []))) ≡ accepted (record { head = fromUosat5; number = 0x01020304; kind = 0x05; offset = 0x060708 })
   pub head-only : readPiece (framed 0xBB []) ≡ refused 1
-  pub information-of-10 : readPiece (framed 0xBB (checked (take 8 (nine 0x02 0x00 0x00 0x00)))) ≡ refused 1
+  pub information-of-10 : readPiece (framed 0xBB (withCheck (take 8 (nine 0x02 0x00 0x00 0x00)))) ≡ refused 1
   pub check-before-flags : readPiece (framed 0xBB (nine 0x03 0x00 0x00 0x00 ++ 0x41 ∷ 0x00 ∷ 0x00 ∷ [])) ≡ refused 6
-  pub flags-before-no-data : readPiece (framed 0xBB (checked (nine 0x03 0x00 0x00 0x00))) ≡ refused 5
-  pub information-of-256 : readPiece (framed 0xBB (checked (nine 0x02 0x00 0x00 0x00 ++ replicate 245 0))) ≡ refused 7
+  pub flags-before-no-data : readPiece (framed 0xBB (withCheck (nine 0x03 0x00 0x00 0x00))) ≡ refused 5
+  pub information-of-256 : readPiece (framed 0xBB (withCheck (nine 0x02 0x00 0x00 0x00 ++ replicate 245 0))) ≡ refused 7
   pub figure-3-3 : readPiece (framed 0xBB figure33) ≡ accepted (record { head = fromUosat5; number = 0xAE7E; kind = 0xC9; offset = 0 })
   pub figure-3-3-bytes : pieceBytes (framed 0xBB figure33) ≡ take 244 (drop 9 figure33)
   pub figure-3-3-header : readHeader (pieceBytes (framed 0xBB figure33)) 0xAE7E ≡ accepted header33
@@ -118,12 +145,13 @@ pub record Cases : Type 0 where
   pub bit-4-set : readEntry (changed 0 0x30) ≡ refused 5
   pub flags-before-whole : readEntry (changed 0 0x01) ≡ refused 5
   pub offset-not-0 : readEntry (changed 8 0x01) ≡ refused 14
-  pub whole-before-header : readEntry (framed 0xBD (checked (0x00 ∷ take 16 (drop 1 figure32)))) ≡ refused 14
+  pub whole-before-header : readEntry (framed 0xBD (withCheck (0x00 ∷ take 16 (drop 1 figure32)))) ≡ refused 14
   pub other-number : readEntry (changed 1 0x68) ≡ refused 8
   pub check-before-flags-of-entry : readEntry (framed 0xBD (set figure32 0 0x21 ++ 0x9D ∷ 0x3D ∷ [])) ≡ refused 6
-  pub information-of-18 : readEntry (framed 0xBD (checked (take 16 figure32))) ≡ refused 1
-  pub information-of-19 : readEntry (framed 0xBD (checked (take 17 figure32))) ≡ refused 8
-  pub byte-behind-header : readEntry (framed 0xBD (checked (figure32 ++ 0x00 ∷ []))) ≡ refused 8
+  pub information-of-18 : readEntry (framed 0xBD (withCheck (take 16 figure32))) ≡ refused 1
+  pub information-of-19 : readEntry (framed 0xBD (withCheck (take 17 figure32))) ≡ refused 8
+  pub byte-behind-header : readEntry (framed 0xBD (withCheck (figure32 ++ 0x00 ∷ []))) ≡ refused 8
+  pub all-bytes-of-entry-told : readEntry (framed 0xBD (withCheck entry-of-bytes)) ≡ accepted values-of-bytes
   pub no-header-of-refused : headerBytes (changed 0 0x00) ≡ []
 
 pub cases : Cases
@@ -135,6 +163,7 @@ cases = record {
   byte-handed-out = refl;
   check-low-byte-first = refl;
   offset-of-three-bytes = refl;
+  all-bytes-told = refl;
   head-only = refl;
   information-of-10 = refl;
   check-before-flags = refl;
@@ -160,5 +189,6 @@ cases = record {
   information-of-18 = refl;
   information-of-19 = refl;
   byte-behind-header = refl;
+  all-bytes-of-entry-told = refl;
   no-header-of-refused = refl;
 }

@@ -4,7 +4,7 @@
 use mathlib.Core.Path.{_≡_, refl, sym, ap, ap₂, _∙_}
 use mathlib.Core.Bool.{true}
 use mathlib.Core.List.{List, [], _∷_, _++_, append-assoc}
-use Prim.Native.Nat.{ℕ, suc, _+_, _-_, _*_, _/_, _%_, _^_, _≤_, _<_}
+use Prim.Native.Nat.{ℕ, suc, _+_, _-_, _*_, _/_, _%_, _≤_, _<_}
 use native.Mathlib.Numerals.{add-one}
 use native.Mathlib.Omega.{arith}
 use lib.ListN.{length, getD, take, drop, length-append, length-drop, take-append-drop, drop-of-length-le}
@@ -15,41 +15,18 @@ use Rattle.reason.proofs.OrderLaws.{accepted-then}
 use Rattle.octets.specs.Numbers.{byteAt, numberAt, bytesOf, AllBytes}
 use Rattle.octets.proofs.NumberLaws.{number-of-bytes, bytes-back}
 use Rattle.remainder.specs.Remainder.{remainderOf}
-use Rattle.remainder.specs.Check.{checkRight}
+use Rattle.remainder.specs.Check.{checkRight, withCheck}
 use Rattle.remainder.proofs.CheckLaws.{right-check, right-only-if}
-use Rattle.ax25.specs.declared.Address.{Address}
 use Rattle.ax25.specs.declared.Head.{Head}
-use Rattle.ax25.specs.Address.{isWritable}
 use Rattle.ax25.specs.Head.{headBytes, headChecks, headOf, readHead}
 use Rattle.ax25.proofs.HeadLaws.{head-says}
 use Rattle.ax25.proofs.RoundTrip.{head-before-information, read-head-is-written}
 use Rattle.frame.specs.declared.Piece.{Piece}
 use Rattle.frame.specs.Information.{file, informationOf}
 use Rattle.frame.specs.Piece.{pieceFlags, pieceChecks, pieceFields, pieceOf, readPiece, pieceData, bytesRead, pieceBytes}
+use Rattle.frame.specs.Made.{pieceBefore, pieceInformation, pieceFrame, Makeable}
 use Rattle.frame.proofs.PieceLaws.{reads-piece}
 use Rattle.frame.proofs.Says.{PieceSays, piece-says}
-
--- the information of a piece: flags, number, type, offset, the bytes, and the check of all of them, high byte first
-abbrev pub pieceBefore : Piece → List ℕ
-pieceBefore p = pieceFlags ∷ (bytesOf 4 (p .number) ++ p .kind ∷ bytesOf 3 (p .offset))
-
-abbrev pub pieceInformation : Piece → List ℕ → List ℕ
-pieceInformation p bytes =
-    let s = pieceBefore p ++ bytes in
-    s ++ remainderOf s / 256 ∷ remainderOf s % 256 ∷ []
-
--- and its frame
-abbrev pub pieceFrame : Piece → List ℕ → List ℕ
-pieceFrame p bytes = headBytes (p .head .destination) (p .head .source) file ++ pieceInformation p bytes
-
--- a piece that can be made: both addresses can be written, the numbers fit their bytes, and there are 1 to 244 bytes
-pub record Makeable (p : Piece) (bytes : List ℕ) : Type 0 where
-  pub destination : isWritable (p .head .destination) ≡ true
-  pub source : isWritable (p .head .source) ≡ true
-  pub number : p .number < 256 ^ 4
-  pub offset : p .offset < 256 ^ 3
-  pub some : 1 ≤ length bytes
-  pub most : length bytes ≤ 244
 
 module _ (p : Piece) (bytes : List ℕ) (m : Makeable p bytes) where
   abbrev Info : List ℕ
@@ -128,7 +105,7 @@ nine s h a l f =
 
 -- information that two check bytes end, in terms of what stands before them
 checked-by : (s : List ℕ) (high low : ℕ) → high < 256 → low < 256 → checkRight (s ++ high ∷ low ∷ []) ≡ true
-    → s ++ remainderOf s / 256 ∷ remainderOf s % 256 ∷ [] ≡ s ++ high ∷ low ∷ []
+    → withCheck s ≡ s ++ high ∷ low ∷ []
 checked-by s high low h l e =
     let r : remainderOf s ≡ high * 256 + low = right-only-if s high low e in
     let x : remainderOf s / 256 ≡ high = omega arith in

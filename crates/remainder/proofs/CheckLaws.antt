@@ -12,7 +12,7 @@ use lib.Seq.{take-append-seam, getD-append-add}
 use lib.Bits.{bitXor, xor-lt}
 use borrow.Author.Tests.{le-leb, eqb-true, eq-eqb}
 use Rattle.remainder.specs.Remainder.{polynomial, withBit, withBits, messageBits, remainderOf}
-use Rattle.remainder.specs.Check.{checkRight}
+use Rattle.remainder.specs.Check.{checkRight, withCheck}
 
 -- one bit more, and all bits of a message: the remainder stays below 2^16
 bit-below : (c bit : ℕ) → c < 2 ^ 16 → bit < 2 → withBit c bit < 2 ^ 16
@@ -52,5 +52,5 @@ pub right-only-if : (s : List ℕ) (high low : ℕ) → checkRight (s ++ high �
 right-only-if s high low e = eqb-true (remainderOf s) (high * 256 + low) (sym (check-of s high low) ∙ e)
 
 -- so every message has a right check
-pub right-check : (s : List ℕ) → checkRight (s ++ remainderOf s / 256 ∷ remainderOf s % 256 ∷ []) ≡ true
+pub right-check : (s : List ℕ) → checkRight (withCheck s) ≡ true
 right-check s = right-if s (remainderOf s / 256) (remainderOf s % 256) (omega arith)

@@ -1,8 +1,8 @@
 -- The two check bytes at the end of an information field (01, "Frame").
 -- Assumes nothing.
 use mathlib.Core.Bool.{Bool, _&&_}
-use mathlib.Core.List.{List}
-use Prim.Native.Nat.{ℕ, _+_, _*_, _-_}
+use mathlib.Core.List.{List, [], _∷_, _++_}
+use Prim.Native.Nat.{ℕ, _+_, _*_, _-_, _/_, _%_}
 use lib.Dec.{leb, eqb}
 use lib.ListN.{length, getD, take}
 use Rattle.remainder.specs.Remainder.{remainderOf}
@@ -12,3 +12,7 @@ unfoldable pub checkRight : List ℕ → Bool
 checkRight s =
     let n = length s - 2 in
     leb 2 (length s) && eqb (remainderOf (take n s)) (getD s n 0 * 256 + getD s (n + 1) 0)
+
+-- a message with its right check behind it, high byte first
+abbrev pub withCheck : List ℕ → List ℕ
+withCheck s = s ++ remainderOf s / 256 ∷ remainderOf s % 256 ∷ []
