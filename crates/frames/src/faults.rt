@@ -1,12 +1,9 @@
 // Every fault planted alone, and every pair of faults that one frame can have: the first in the order
-// of the paper is answered.
+// of the paper is answered. A question mark stands behind an answer that is another one.
+use crate::Bytes;
 use crate::bases;
 use crate::made;
-use crate::made::Made;
-use crate::rules;
 use crate::say;
-use crate::say::Kind;
-use crate::series;
 
 // The faults, numbered in the paper's order.
 pub(crate) const SHORT: usize = 0;
@@ -25,100 +22,128 @@ const INFORMATION: usize = 6;
 
 pub(crate) const CHECK: usize = 7;
 
-const FLAGS: usize = 8;
-
 const NOT_WHOLE: usize = 9;
-
-const OFFSET: usize = 10;
 
 pub(crate) const NO_DATA: usize = 11;
 
-const HEADER: usize = 12;
+pub(crate) const HEADER: usize = 12;
 
-// The faults of a frame, one of them twice where it has only one.
-struct Pair {
-    first: usize,
-    second: usize,
+// The reason of each fault.
+const REASONS: [u8; 13] = [1, 2, 2, 3, 4, 7, 1, 6, 5, 14, 14, 7, 8];
+
+// Where one byte differs by a fault, and in which bits, before the check is made: a destination in
+// lower case, a source with a low bit set, control 13, the protocol of the other reading; flags with bit 0
+// set, an entry's flags with bit 5 clear, an entry's offset of 1, an entry's number that is not item
+// 01's. The other faults have no such bits.
+const PLACES: [usize; 13] = [0, 0, 7, 14, 15, 0, 0, 0, 16, 16, 21, 0, 17];
+
+const BITS: [u8; 13] = [0, 0x40, 1, 0x10, 6, 0, 0, 0, 1, 0x20, 1, 0, 1];
+
+// A line for each of the 10 faults of a piece or the 12 of an entry, and behind it for its pair with
+// each that comes later in the order.
+pub(crate) fn all(protocol: u8) {
+    say::heading(b"Faults: ", protocol);
+    pairs(protocol);
 }
 
-// A line for each of the 13 faults, and behind it for its pair with each that comes later in the order.
-pub(crate) fn all(kind: Kind) {
-    match kind {
-        Kind::Piece => say::text(b"Faults of a piece\n"),
-        Kind::Entry => say::text(b"Faults of an entry\n"),
-    }
+// A line for each pair, of which one fault with itself is that fault alone.
+fn pairs(protocol: u8) {
     for c in 0..169 {
-        planted(
-            kind,
-            Pair {
-                first: c / 13,
-                second: c % 13,
-            },
-        );
+        planted(protocol, c / 13, c % 13);
     }
 }
 
 // The line of one pair, where it can be planted.
-fn planted(kind: Kind, p: Pair) {
-    if !possible(kind, p) {
-        return;
+fn planted(protocol: u8, first: usize, second: usize) {
+    if possible(protocol, first, second) {
+        let frame = frame(protocol, first, second);
+        names(protocol, first, second);
+        compared(say::answer(protocol, frame), reason(first));
     }
-    match kind {
-        Kind::Piece => say::text(b"piece "),
-        Kind::Entry => say::text(b"entry "),
+}
+
+// A line for each fault of a frame's first 16 bytes, where there are no more.
+pub(crate) fn heads(protocol: u8) {
+    say::heading(b"Faults of 16 bytes: ", protocol);
+    head(protocol, DESTINATION);
+    head(protocol, SOURCE);
+    head(protocol, CONTROL);
+    head(protocol, PROTOCOL);
+}
+
+// The line of a frame of 16 bytes with one fault.
+fn head(protocol: u8, fault: usize) {
+    let frame = made::cut(frame(protocol, fault, fault), 16);
+    names(protocol, fault, fault);
+    compared(say::answer(protocol, frame), reason(fault));
+}
+
+// The start of a line: the faults' names.
+fn names(protocol: u8, first: usize, second: usize) {
+    say::word(protocol);
+    name(first);
+    if first != second {
+        name(second);
     }
-    name(p.first);
-    if p.first != p.second {
-        say::text(b"+");
-        name(p.second);
+}
+
+// The rest of a line: the answer, and a question mark where it is not the reason.
+fn compared(answer: u8, reason: u8) {
+    say::outcome(answer);
+    if answer != reason {
+        say::text(b" ?");
     }
-    say::end(say::answer(kind, frame(kind, p)));
+    say::newline();
 }
 
 // The name of a fault: its reason, with a letter where several have the same.
-fn name(fault: usize) {
-    match fault {
-        SHORT => say::text(b"1"),
-        DESTINATION => say::text(b"2"),
-        SOURCE => say::text(b"2s"),
-        CONTROL => say::text(b"3"),
-        PROTOCOL => say::text(b"4"),
-        LONG => say::text(b"7"),
-        INFORMATION => say::text(b"1i"),
-        CHECK => say::text(b"6"),
-        FLAGS => say::text(b"5"),
-        NOT_WHOLE => say::text(b"14"),
-        OFFSET => say::text(b"14o"),
-        NO_DATA => say::text(b"7n"),
-        _ => say::text(b"8"),
+pub(crate) fn name(fault: usize) {
+    say::space();
+    say::number(reason(fault) as u64);
+    letter(fault);
+}
+
+// The letter of a fault, where it has one.
+fn letter(fault: usize) {
+    let letters = b"  s   i   on ";
+    let letter = [octets::byte(letters, fault)];
+    if letter[0] != b' ' {
+        say::text(&letter);
     }
 }
 
-// Whether one frame of the kind can have both faults.
-fn possible(kind: Kind, p: Pair) -> bool {
-    if p.first > p.second {
-        return false;
-    }
-    if p.first == p.second {
-        return known(kind, p.first);
-    }
-    if p.first == SHORT {
-        return p.second < PROTOCOL;
-    }
-    if sized(p.first) & sized(p.second) {
-        return false;
-    }
-    if (p.first == INFORMATION) & (p.second == HEADER) {
-        return false;
-    }
-    known(kind, p.first) & known(kind, p.second)
+// The reason of a fault.
+fn reason(fault: usize) -> u8 {
+    let reasons = REASONS;
+    if fault < 13 { reasons[fault] } else { 0 }
 }
 
-// Whether a frame of the kind can have the fault.
-fn known(kind: Kind, fault: usize) -> bool {
-    match kind {
-        Kind::Piece => (fault < NOT_WHOLE) | (fault == NO_DATA),
-        Kind::Entry => fault != NO_DATA,
+// Whether one frame can have both faults.
+fn possible(protocol: u8, first: usize, second: usize) -> bool {
+    if first > second {
+        return false;
+    }
+    if first == second {
+        return known(protocol, first);
+    }
+    if first == SHORT {
+        return second < PROTOCOL;
+    }
+    if sized(first) & sized(second) {
+        return false;
+    }
+    if (first == INFORMATION) & (second == HEADER) {
+        return false;
+    }
+    known(protocol, first) & known(protocol, second)
+}
+
+// Whether a frame of the protocol can have the fault.
+fn known(protocol: u8, fault: usize) -> bool {
+    if protocol == frame::DIRECTORY {
+        fault != NO_DATA
+    } else {
+        (fault < NOT_WHOLE) | (fault == NO_DATA)
     }
 }
 
@@ -127,129 +152,73 @@ fn sized(fault: usize) -> bool {
     (fault == LONG) | (fault == INFORMATION) | (fault == NO_DATA)
 }
 
-// Whether the fault is one of the two.
-fn has(p: Pair, fault: usize) -> bool {
-    (p.first == fault) | (p.second == fault)
+// The frame with the faults, one of them twice where it has only one.
+pub(crate) fn frame(protocol: u8, first: usize, second: usize) -> Bytes {
+    let open = of_size(protocol, of_length(first, second));
+    closed(both(open, first, second), first, second)
 }
 
-// The frame with the faults.
-fn frame(kind: Kind, p: Pair) -> Made {
-    let open = match kind {
-        Kind::Piece => piece(p),
-        Kind::Entry => entry(p),
-    };
-    let frame = headed(kind, p, broken(p, made::checked(open)));
-    if has(p, SHORT) {
-        made::cut(frame, 15)
+// The fault of the two that can be one of the length.
+fn of_length(first: usize, second: usize) -> usize {
+    if sized(second) { second } else { first }
+}
+
+// A frame with the bits of both faults.
+fn both(open: Bytes, first: usize, second: usize) -> Bytes {
+    let once = changed(open, first);
+    if first == second {
+        once
     } else {
-        frame
+        changed(once, second)
     }
 }
 
-// A piece with one fault.
-pub(crate) fn alone(fault: usize) -> Made {
-    let p = Pair {
-        first: fault,
-        second: fault,
-    };
-    frame(Kind::Piece, p)
+// A frame with its check, and with the faults that come behind it: the last check byte wrong, and only
+// the first 15 bytes.
+fn closed(open: Bytes, first: usize, second: usize) -> Bytes {
+    if first == SHORT {
+        return made::cut(open, 15);
+    }
+    if (first == CHECK) | (second == CHECK) {
+        return made::closed(open, 1);
+    }
+    made::checked(open)
 }
 
-// A piece with the faults of its information, without its check.
-fn piece(p: Pair) -> Made {
-    let flags = if has(p, FLAGS) { 3 } else { 2 };
-    if has(p, LONG) {
-        return bases::piece(flags, 245);
-    }
-    if has(p, NO_DATA) {
-        return bases::piece(flags, 0);
-    }
-    let whole = bases::piece(flags, 4);
-    if has(p, INFORMATION) {
-        made::cut(whole, 24)
-    } else {
-        whole
-    }
-}
-
-// An entry with the faults of its information, without its check.
-fn entry(p: Pair) -> Made {
-    let flagged = made::with_byte(bases::entry(header(p)), 16, flags(p));
-    let whole = if has(p, OFFSET) {
-        made::with_byte(flagged, 21, 1)
-    } else {
-        flagged
-    };
-    if has(p, INFORMATION) {
-        made::cut(whole, 32)
-    } else {
-        whole
-    }
-}
-
-// An entry's flags with the faults: bit 0 set, bit 5 clear.
-fn flags(p: Pair) -> u8 {
-    let whole = if has(p, NOT_WHOLE) { 0 } else { 0x20 };
-    let allowed = if has(p, FLAGS) { 1 } else { 0 };
-    whole | allowed
-}
-
-// An entry's header with the faults: longer, and with another number in item 01.
-fn header(p: Pair) -> Made {
-    let right = if has(p, LONG) {
-        series::long_header(256)
-    } else {
-        bases::header()
-    };
-    if has(p, HEADER) {
-        rules::summed(made::with_byte(right, 5, 0x66))
-    } else {
-        right
-    }
-}
-
-// A frame, or the same with its last check byte wrong.
-fn broken(p: Pair, frame: Made) -> Made {
-    let size = frame.size;
-    if size == 0 {
+// A frame with the bits of a fault.
+fn changed(frame: Bytes, fault: usize) -> Bytes {
+    let places = PLACES;
+    let bits = BITS;
+    if fault > 12 {
         return frame;
     }
-    if !has(p, CHECK) {
-        return frame;
-    }
-    let last = size - 1;
-    made::with_byte(frame, last, made::byte(frame, last) ^ 1)
+    made::turned(frame, places[fault], bits[fault])
 }
 
-// A frame with the faults of its first 16 bytes: a destination in lower case, a source with a low bit
-// set, control 13, and the protocol of the other kind.
-fn headed(kind: Kind, p: Pair, frame: Made) -> Made {
-    let first = if has(p, DESTINATION) {
-        made::with_byte(frame, 0, 0xEC)
+// The frame with no fault but one of its length, without its check.
+fn of_size(protocol: u8, fault: usize) -> Bytes {
+    if protocol == frame::DIRECTORY {
+        entry(fault)
     } else {
-        frame
-    };
-    let second = if has(p, SOURCE) {
-        made::with_byte(first, 7, 0xAB)
-    } else {
-        first
-    };
-    let third = if has(p, CONTROL) {
-        made::with_byte(second, 14, 0x13)
-    } else {
-        second
-    };
-    if has(p, PROTOCOL) {
-        made::with_byte(third, 15, other(kind))
-    } else {
-        third
+        piece(fault)
     }
 }
 
-// The protocol of the other kind.
-fn other(kind: Kind) -> u8 {
-    match kind {
-        Kind::Piece => 0xBD,
-        Kind::Entry => 0xBB,
+// A piece with no fault but one of its length.
+fn piece(fault: usize) -> Bytes {
+    match fault {
+        LONG => bases::piece(245),
+        INFORMATION => made::cut(bases::piece(0), 24),
+        NO_DATA => bases::piece(0),
+        _ => bases::piece(4),
+    }
+}
+
+// An entry with no fault but one of its length.
+fn entry(fault: usize) -> Bytes {
+    match fault {
+        LONG => bases::long_entry(256),
+        INFORMATION => made::cut(bases::entry(), 32),
+        _ => bases::entry(),
     }
 }

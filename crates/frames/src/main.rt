@@ -1,29 +1,34 @@
 // Reads frames through the library, piece by piece and entry by entry, and prints what became of each:
-// lengths on both sides of every limit, all flag bytes, cuts of a header, each rule of a header broken
-// and kept, and every pair of faults in one frame, of which the first in the paper's order is answered.
-// Every frame is the sample of figure 3.2, or a piece of file 7, with the change that its line names;
-// the check bytes and the header's own sum are made right again unless they are what is changed.
+// lengths on both sides of every limit, all flag bytes, cuts of a header and bytes behind it, every
+// pair of faults in one frame, of which the first in the paper's order is answered, and what is handed
+// out. Every frame is the sample of figure 3.2, or a piece of file 7, with the change that its line
+// names. The check bytes are made right again unless they are what is changed; a header's items are
+// made right again only where the header is longer.
 mod bases;
 mod faults;
 mod flags;
-mod headers;
+mod handed;
 mod made;
-mod pieces;
-mod rules;
 mod say;
 mod series;
 
-use say::Kind;
+// The bytes made so far: the first `size` of `bytes`.
+pub(crate) struct Bytes {
+    pub(crate) bytes: [u8; 400],
+    pub(crate) size: usize,
+}
 
 fn main() {
     series::of_pieces();
     series::of_entries();
-    flags::of_pieces();
-    flags::of_entries();
-    series::of_offsets();
-    series::of_headers();
-    rules::all();
-    faults::all(Kind::Piece);
-    faults::all(Kind::Entry);
-    pieces::all();
+    series::of_places();
+    flags::all(frame::FILE);
+    flags::all(frame::DIRECTORY);
+    faults::all(frame::FILE);
+    faults::all(frame::DIRECTORY);
+    faults::heads(frame::FILE);
+    faults::heads(frame::DIRECTORY);
+    handed::of_pieces();
+    handed::of_entries();
+    handed::of_fields();
 }

@@ -1,26 +1,22 @@
 // What the library answers for a frame, as one number, and the lines that say it.
+use crate::Bytes;
 use crate::made;
-use crate::made::Made;
 use frame::EntryRead;
 use frame::PieceRead;
 use libc::STDOUT_FILENO;
 
-// What a frame is read as.
-pub(crate) enum Kind {
-    Piece,
-    Entry,
-}
-
-// The reason for which the frame is refused, 0 where it is accepted.
-pub(crate) fn answer(kind: Kind, frame: Made) -> u8 {
-    match kind {
-        Kind::Piece => piece(frame),
-        Kind::Entry => entry(frame),
+// The reason for which the frame is refused, 0 where it is accepted: read as a piece, or as an entry
+// where the protocol is that of directories.
+pub(crate) fn answer(protocol: u8, frame: Bytes) -> u8 {
+    if protocol == frame::DIRECTORY {
+        entry(frame)
+    } else {
+        piece(frame)
     }
 }
 
 // The answer for a frame that is read as a piece.
-fn piece(frame: Made) -> u8 {
+fn piece(frame: Bytes) -> u8 {
     let bytes = frame.bytes;
     match frame::read_piece(made::first(&bytes, frame.size)) {
         PieceRead::Accepted(_) => 0,
@@ -29,7 +25,7 @@ fn piece(frame: Made) -> u8 {
 }
 
 // The answer for a frame that is read as an entry.
-fn entry(frame: Made) -> u8 {
+fn entry(frame: Bytes) -> u8 {
     let bytes = frame.bytes;
     match frame::read_entry(made::first(&bytes, frame.size)) {
         EntryRead::Accepted(_) => 0,
@@ -42,6 +38,16 @@ pub(crate) fn text(words: &[u8]) {
     io::write_all(STDOUT_FILENO, words);
 }
 
+// A space.
+pub(crate) fn space() {
+    text(b" ");
+}
+
+// The end of a line.
+pub(crate) fn newline() {
+    text(b"\n");
+}
+
 // A number in decimal.
 pub(crate) fn number(n: u64) {
     io::print_decimal(STDOUT_FILENO, n);
@@ -50,7 +56,7 @@ pub(crate) fn number(n: u64) {
 // A byte as two hexadecimal digits.
 pub(crate) fn hex(b: u8) {
     let digits = [digit(b / 16), digit(b % 16)];
-    io::write_all(STDOUT_FILENO, &digits);
+    text(&digits);
 }
 
 // A hexadecimal digit; of a number above 15 a question mark.
@@ -64,26 +70,34 @@ fn digit(n: u8) -> u8 {
     b'?'
 }
 
-// The end of a line that says what a frame was answered.
-pub(crate) fn end(answer: u8) {
-    if answer == 0 {
-        text(b": accepted\n");
+// What a frame of the protocol is.
+pub(crate) fn word(protocol: u8) {
+    if protocol == frame::DIRECTORY {
+        text(b"entry");
     } else {
-        text(b": refused ");
-        number(answer as u64);
-        text(b"\n");
+        text(b"piece");
     }
 }
 
-// A line for one frame.
-pub(crate) fn line(name: &[u8], kind: Kind, frame: Made) {
-    text(name);
-    end(answer(kind, frame));
+// The line over those that follow, which ends in what their frames are.
+pub(crate) fn heading(words: &[u8], protocol: u8) {
+    text(words);
+    word(protocol);
+    newline();
 }
 
-// A line for one frame, whose name ends in a number.
-pub(crate) fn counted(name: &[u8], n: usize, kind: Kind, frame: Made) {
-    text(name);
-    number(n as u64);
-    end(answer(kind, frame));
+// What a frame was answered.
+pub(crate) fn outcome(answer: u8) {
+    if answer == 0 {
+        text(b": accepted");
+    } else {
+        text(b": refused ");
+        number(answer as u64);
+    }
+}
+
+// The rest of a line for one frame.
+pub(crate) fn end(protocol: u8, frame: Bytes) {
+    outcome(answer(protocol, frame));
+    newline();
 }

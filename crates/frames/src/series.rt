@@ -1,147 +1,110 @@
-// Frames that differ in one number: a length, or a place. A line for each.
+// Frames by their length, and entries with another byte at one place.
+use crate::Bytes;
 use crate::bases;
-use crate::headers;
-use crate::headers::Change;
 use crate::made;
-use crate::made::Made;
-use crate::rules;
 use crate::say;
-use crate::say::Kind;
-
-// What the number of a series is: the length of a piece's or an entry's information, that of a frame
-// cut from a piece or an entry, that to which an entry's header is cut, how many zeros stand behind the
-// end item, which byte of an entry's offset is 1, which byte of item 01 is different.
-enum Series {
-    Piece,
-    Entry,
-    PieceCut,
-    EntryCut,
-    HeaderCut,
-    Zeros,
-    Offset,
-    Number,
-}
 
 // Pieces by the length of their information, around 11 and around 255, and the first bytes of one.
 pub(crate) fn of_pieces() {
-    say::text(b"Lengths of a piece in bytes\n");
-    lines(Series::Piece, 0, 13);
-    lines(Series::Piece, 253, 258);
-    lines(Series::PieceCut, 0, 17);
+    say::heading(b"Lengths: ", frame::FILE);
+    informations(frame::FILE, 0, 13);
+    informations(frame::FILE, 253, 258);
+    cuts(frame::FILE);
 }
 
-// Entries by the length of their information, up to 20 and around 255, and the first bytes of one.
+// Entries by the length of their information, up to the figure's 99 and around 255, and the first bytes
+// of one. Of information from 19 to 99 bytes the header is cut to its first 0 to 80.
 pub(crate) fn of_entries() {
-    say::text(b"Lengths of an entry in bytes\n");
-    lines(Series::Entry, 0, 21);
-    lines(Series::Entry, 255, 257);
-    lines(Series::EntryCut, 0, 17);
+    say::heading(b"Lengths: ", frame::DIRECTORY);
+    informations(frame::DIRECTORY, 0, 100);
+    informations(frame::DIRECTORY, 255, 257);
+    cuts(frame::DIRECTORY);
 }
 
-// Entries whose offset is not 0.
-pub(crate) fn of_offsets() {
-    say::text(b"Offset of an entry\n");
-    lines(Series::Offset, 0, 4);
-}
-
-// Entries with only the first bytes of their header, and with zeros behind the end item.
-pub(crate) fn of_headers() {
-    say::text(b"An entry's header cut to its first bytes, and with zeros behind it\n");
-    lines(Series::HeaderCut, 0, 81);
-    lines(Series::Zeros, 1, 4);
-}
-
-// Entries whose item 01 is not the frame's number.
-pub(crate) fn of_numbers() {
-    lines(Series::Number, 0, 4);
-}
-
-// A line for each number from one on and below another.
-fn lines(series: Series, from: usize, to: usize) {
+// A line for each length of the information from one on and below another.
+fn informations(protocol: u8, from: usize, to: usize) {
     for n in from..to {
-        line(series, n);
+        information(protocol, n);
     }
 }
 
-// The line of one number.
-fn line(series: Series, n: usize) {
-    match series {
-        Series::Piece => say::counted(b"information ", n, Kind::Piece, piece(n)),
-        Series::Entry => say::counted(b"information ", n, Kind::Entry, entry(n)),
-        Series::PieceCut => say::counted(b"frame ", n, Kind::Piece, made::cut(piece(15), n)),
-        Series::EntryCut => say::counted(b"frame ", n, Kind::Entry, made::cut(entry(99), n)),
-        Series::HeaderCut => say::counted(b"first ", n, Kind::Entry, header_cut(n)),
-        Series::Zeros => say::counted(b"zeros behind the end item ", n, Kind::Entry, with_zeros(n)),
-        Series::Offset => say::counted(b"1 in byte ", n, Kind::Entry, with_offset(n)),
-        Series::Number => say::counted(
-            b"item 01 different in byte ",
-            n,
-            Kind::Entry,
-            with_number(n),
-        ),
+// The line of one length.
+fn information(protocol: u8, n: usize) {
+    say::text(b"information ");
+    say::number(n as u64);
+    say::end(protocol, informed(protocol, n));
+}
+
+// A frame with n bytes of information.
+fn informed(protocol: u8, n: usize) -> Bytes {
+    if protocol == frame::DIRECTORY {
+        entry(n)
+    } else {
+        piece(n)
     }
 }
 
 // A piece with n bytes of information: zeros where there is no room for its fields and the check, which
 // is 00 00 for zeros.
-fn piece(n: usize) -> Made {
+fn piece(n: usize) -> Bytes {
     if n < 11 {
-        return made::and_zeros(bases::head(0xBB), n);
+        return made::and_zeros(bases::head(frame::FILE), n);
     }
-    made::checked(bases::piece(2, n - 11))
+    made::checked(bases::piece(((n - 11) % 256) as u8))
 }
 
 // An entry with n bytes of information: up to 99 the first bytes of the figure's with their check, and
-// zeros where there is no room for the check; beyond, with an item more in its header.
-fn entry(n: usize) -> Made {
+// zeros where there is no room for the check; beyond, 255 or 256 with an item more in the header.
+fn entry(n: usize) -> Bytes {
     if n < 2 {
-        return made::and_zeros(bases::head(0xBD), n);
+        return made::and_zeros(bases::head(frame::DIRECTORY), n);
     }
     if n < 100 {
-        return made::checked(bases::and_figure(bases::head(0xBD), 0, n - 2));
+        return made::checked(made::cut(bases::entry(), 14 + n));
     }
-    bases::entry_frame(long_header(n))
+    made::checked(bases::long_entry(n))
 }
 
-// The header of an entry with n bytes of information, n from 102 to 256: the figure's items and an
-// item 30.
-pub(crate) fn long_header(n: usize) -> Made {
-    if n < 102 {
-        return bases::header();
+// A line for each number of first bytes of the base, from none to 16.
+fn cuts(protocol: u8) {
+    for n in 0..17 {
+        cut(protocol, n);
     }
-    if n > 256 {
-        return bases::header();
-    }
-    let length = n - 102;
-    let head = [0x30, 0, length as u8];
-    let tail = made::and_zeros(made::and(made::nothing(), &head), length + 3);
-    let bytes = tail.bytes;
-    headers::header(
-        headers::changing(0, Change::Same),
-        made::first(&bytes, tail.size),
-    )
 }
 
-// The entry with only the first n bytes of its header.
-fn header_cut(n: usize) -> Made {
-    bases::entry_frame(made::cut(bases::header(), n))
+// The line of the first n bytes of the base.
+fn cut(protocol: u8, n: usize) {
+    say::text(b"frame ");
+    say::number(n as u64);
+    say::end(protocol, made::cut(bases::base(protocol), n));
 }
 
-// The entry with n zeros behind its header.
-fn with_zeros(n: usize) -> Made {
-    bases::entry_frame(made::and_zeros(bases::header(), n))
+// Entries with 1 in each of the four bytes of their offset, and with bytes behind the end item: one to
+// three zeros, FF, and an item 30 of no data. Without the check the figure's entry has 113 bytes.
+pub(crate) fn of_places() {
+    place(21, 0x01, 113);
+    place(22, 0x01, 113);
+    place(23, 0x01, 113);
+    place(24, 0x01, 113);
+    place(113, 0x00, 114);
+    place(113, 0x00, 115);
+    place(113, 0x00, 116);
+    place(113, 0xFF, 114);
+    place(113, 0x30, 116);
 }
 
-// The entry with 1 in one of the four bytes of its offset.
-fn with_offset(k: usize) -> Made {
-    let at = 21 + k % 4;
-    made::checked(made::with_byte(bases::entry(bases::header()), at, 1))
+// The line of the entry with another byte at a place, followed by zeros up to a size.
+fn place(at: usize, b: u8, size: usize) {
+    say::hex(b);
+    say::text(b" at ");
+    say::number(at as u64);
+    say::text(b" of ");
+    say::number(size as u64);
+    say::end(frame::DIRECTORY, placed(at, b, size));
 }
 
-// The entry whose item 01 is different in one of its four bytes.
-fn with_number(k: usize) -> Made {
-    let at = 5 + k % 4;
-    let header = bases::header();
-    let b = made::byte(header, at) ^ 1;
-    bases::entry_frame(rules::summed(made::with_byte(header, at, b)))
+// Such an entry.
+fn placed(at: usize, b: u8, size: usize) -> Bytes {
+    let longer = made::with_byte(made::and_zeros(bases::entry(), 3), at, b);
+    made::checked(made::cut(longer, size))
 }

@@ -6,10 +6,10 @@ use Rattle.frames.proofs.flags.values.Statement.{statement}
 use Rattle.frames.proofs.flags.values.Tie as tie
 
 abbrev Inv-loop : tie.InvT-loop
-Inv-loop kind «open» v₀ v = v ≤ 256
+Inv-loop protocol «open» v₀ v = v ≤ 256
 
 abbrev μ-loop : tie.MeasureT-loop
-μ-loop kind «open» v₀ v = 256 - v
+μ-loop protocol «open» v₀ v = 256 - v
 
 loop-holds : tie.Need-loop-holds Inv-loop μ-loop
 loop-holds c = search needs

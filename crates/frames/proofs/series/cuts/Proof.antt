@@ -1,21 +1,21 @@
--- `frames::series::lines` is safe and ends: a turn for each number.
+-- `frames::series::cuts` is safe and ends: a turn for each number.
 -- Assumes what the contract of C's `write` says, as every program does that prints.
 use Prim.Native.Nat.{_-_, _≤_}
 use borrow.Author.Needs.{needs}
-use Rattle.frames.proofs.series.lines.Statement.{statement}
-use Rattle.frames.proofs.series.lines.Tie as tie
+use Rattle.frames.proofs.series.cuts.Statement.{statement}
+use Rattle.frames.proofs.series.cuts.Tie as tie
 
 abbrev Inv-loop : tie.InvT-loop
-Inv-loop series from to n₀ n = from ≤ n
+Inv-loop protocol n₀ n = n ≤ 17
 
 abbrev μ-loop : tie.MeasureT-loop
-μ-loop series from to n₀ n = to - n
+μ-loop protocol n₀ n = 17 - n
 
 loop-holds : tie.Need-loop-holds Inv-loop μ-loop
 loop-holds c = search needs
 
-line-requires : tie.Need-line-requires Inv-loop μ-loop
-line-requires c κs = search needs
+cut-requires : tie.Need-cut-requires Inv-loop μ-loop
+cut-requires c κs = search needs
 
 add-n : tie.Need-add-n Inv-loop μ-loop
 add-n c = search needs
@@ -29,7 +29,7 @@ loop-again c = search needs
 returns : tie.Need-returns Inv-loop μ-loop
 returns c = search needs
 
-pub lines-spec : {M : Type 1} → statement M
-lines-spec =
+pub cuts-spec : {M : Type 1} → statement M
+cuts-spec =
     tie.close
-    (tie.spec Inv-loop μ-loop loop-holds line-requires add-n loop-less loop-again returns)
+    (tie.spec Inv-loop μ-loop loop-holds cut-requires add-n loop-less loop-again returns)

@@ -1,15 +1,15 @@
--- `frames::headers::items` is safe and ends: a turn for each item.
+-- `headers::items::items` is safe and ends: a turn for each item.
 -- Assumes what the contract of C's `write` says, as every program does that prints.
 use Prim.Native.Nat.{_-_, _≤_}
 use borrow.Author.Needs.{needs}
-use Rattle.frames.proofs.headers.items.Statement.{statement}
-use Rattle.frames.proofs.headers.items.Tie as tie
+use Rattle.headers.proofs.items.items.Statement.{statement}
+use Rattle.headers.proofs.items.items.Tie as tie
 
 abbrev Inv-loop : tie.InvT-loop
-Inv-loop plan tail values m₀ k₀ m k = k ≤ 12
+Inv-loop change reversed tail sum body m₀ k₀ m k = k ≤ 12
 
 abbrev μ-loop : tie.MeasureT-loop
-μ-loop plan tail values m₀ k₀ m k = 12 - k
+μ-loop change reversed tail sum body m₀ k₀ m k = 12 - k
 
 nothing-requires : tie.Need-nothing-requires Inv-loop μ-loop
 nothing-requires c κs = search needs
@@ -26,6 +26,9 @@ loop-holds c = search needs
 placed-requires : tie.Need-placed-requires Inv-loop μ-loop
 placed-requires c κs = search needs
 
+item-requires : tie.Need-item-requires Inv-loop μ-loop
+item-requires c κs = search needs
+
 and-item-requires : tie.Need-and-item-requires Inv-loop μ-loop
 and-item-requires c κs = search needs
 
@@ -38,8 +41,8 @@ loop-less c = search needs
 loop-again : tie.Need-loop-again Inv-loop μ-loop
 loop-again c = search needs
 
-and-requires-2 : tie.Need-and-requires-2 Inv-loop μ-loop
-and-requires-2 c κs = search needs
+and-made-requires : tie.Need-and-made-requires Inv-loop μ-loop
+and-made-requires c κs = search needs
 
 returns : tie.Need-returns Inv-loop μ-loop
 returns c = search needs
@@ -55,9 +58,10 @@ items-spec =
     and-requires
     loop-holds
     placed-requires
+    item-requires
     and-item-requires
     add-k
     loop-less
     loop-again
-    and-requires-2
+    and-made-requires
     returns)
