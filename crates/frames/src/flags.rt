@@ -1,4 +1,4 @@
-// All flag bytes of a piece and of an entry: those that are not refused 5, each with its answer.
+// All flag bytes of a piece and of an entry, each with its answer, 16 to a line.
 use crate::Bytes;
 use crate::bases;
 use crate::made;
@@ -6,7 +6,7 @@ use crate::say;
 
 // All flag bytes of a frame.
 pub(crate) fn all(protocol: u8) {
-    say::heading(b"Flags that are not refused 5: ", protocol);
+    say::heading(b"Flags, 16 to a line, 0 for accepted: ", protocol);
     values(protocol, bases::base(protocol));
 }
 
@@ -19,18 +19,22 @@ fn values(protocol: u8, open: Bytes) {
     }
 }
 
-// The line of one flag byte, unless it is refused 5.
+// What is answered for one flag byte, and the start and the end of its line.
 fn value(protocol: u8, open: Bytes, flags: u8) {
+    if flags % 16 == 0 {
+        start(flags);
+    }
     let answer = say::answer(protocol, made::checked(made::with_byte(open, 16, flags)));
-    if answer != 5 {
-        line(flags, answer);
+    say::space();
+    say::number(answer as u64);
+    if flags % 16 == 15 {
+        say::newline();
     }
 }
 
-// The line of one flag byte.
-fn line(flags: u8, answer: u8) {
+// The start of a line of flag bytes.
+fn start(flags: u8) {
     say::text(b"flags ");
     say::hex(flags);
-    say::outcome(answer);
-    say::newline();
+    say::text(b":");
 }
