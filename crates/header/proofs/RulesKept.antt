@@ -12,7 +12,7 @@ use Rattle.reason.proofs.OrderLaws.{not-both}
 use Rattle.octets.specs.Numbers.{byteAt}
 use Rattle.header.specs.declared.Header.{Header}
 use Rattle.header.specs.Items.{items, countOf, sizeOf}
-use Rattle.header.specs.Header.{beginsRight, endsRight, allOnce, uploadRight, headerLength, mandatory, once, valueOf, headerSum, headerOf, keepsRules, readHeader}
+use Rattle.header.specs.Header.{beginsRight, endsRight, allOnce, uploadRight, valuesRight, headerLength, mandatory, once, valueOf, headerSum, headerOf, keepsRules, readHeader}
 use Rattle.header.specs.Rules.{Rules}
 use Rattle.header.proofs.TableLaws.{each, all-pass}
 use Rattle.header.proofs.HeaderLaws.{reads-8, reads-header, header-accepted, header-refused}
@@ -54,16 +54,27 @@ module _ (s : List ℕ) (number : ℕ) where
         before = leb-true _ _ (and-right (Sum && Own && Behind) Before values);
       }
 
-  pub kept : Rules s number → keepsRules s number ≡ true
-  unfolding keepsRules headerOf
-  kept r =
-      let begun = and-both (eqb (byteAt s 0) 0xAA) (eqb (byteAt s 1) 0x55) (eq-eqb _ _ (r .marker .0)) (eq-eqb _ _ (r .marker .1)) in
-      let listed = all-pass (once (countOf (items s)) (sizeOf (items s))) mandatory (λ p m. and-both _ _ (eq-eqb _ _ (r .each-once p m)) (eq-eqb _ _ (r .each-sized p m))) in
+  -- the tests, by the rules
+  pub begins-kept : Rules s number → beginsRight s ≡ true
+  begins-kept r = and-both (eqb (byteAt s 0) 0xAA) (eqb (byteAt s 1) 0x55) (eq-eqb _ _ (r .marker .0)) (eq-eqb _ _ (r .marker .1))
+
+  pub once-kept : Rules s number → allOnce s ≡ true
+  once-kept r =
+      all-pass (once (countOf (items s)) (sizeOf (items s))) mandatory (λ p m. and-both _ _ (eq-eqb _ _ (r .each-once p m)) (eq-eqb _ _ (r .each-sized p m)))
+
+  pub values-kept : Rules s number → valuesRight s number ≡ true
+  unfolding headerOf
+  values-kept r =
       let owns = and-both Sum Own (eq-eqb _ _ (r .sum)) (eq-eqb _ _ (r .own)) in
-      let values = and-both (Sum && Own && Behind) Before (and-both (Sum && Own) Behind owns (le-leb _ _ (r .behind))) (le-leb _ _ (r .before)) in
-      let two = and-both (beginsRight s) (endsRight s) begun (le-leb _ _ (r .ends)) in
-      and-both (beginsRight s && endsRight s && allOnce s && uploadRight s) (Sum && Own && Behind && Before)
-      (and-both (beginsRight s && endsRight s && allOnce s) (uploadRight s) (and-both (beginsRight s && endsRight s) (allOnce s) two listed) (le-leb _ _ (r .upload))) values
+      and-both (Sum && Own && Behind) Before (and-both (Sum && Own) Behind owns (le-leb _ _ (r .behind))) (le-leb _ _ (r .before))
+
+  pub kept : Rules s number → keepsRules s number ≡ true
+  unfolding keepsRules
+  kept r =
+      let two = and-both (beginsRight s) (endsRight s) (begins-kept r) (le-leb _ _ (r .ends)) in
+      let three = and-both (beginsRight s && endsRight s) (allOnce s) two (once-kept r) in
+      let four = and-both (beginsRight s && endsRight s && allOnce s) (uploadRight s) three (le-leb _ _ (r .upload)) in
+      and-both (beginsRight s && endsRight s && allOnce s && uploadRight s) (valuesRight s number) four (values-kept r)
 
   -- accepted exactly if it keeps them, and then with its values
   pub accepts-if : Rules s number → readHeader s number ≡ accepted (headerOf s)

@@ -1,75 +1,61 @@
 -- `header::read_header` meets its contract: one test of the rules fails at each refusal, and all hold at the end.
 -- Assumes nothing.
 use mathlib.Core.Path.{_≡_, sym, ap, ap₂, _∙_}
-use mathlib.Core.Bool.{Bool, true, false, _&&_, and-false}
+use mathlib.Core.Bool.{Bool, true, false, _&&_, true≢false}
 use mathlib.Core.List.{List}
 use Prim.Native.Nat.{ℕ, _≤_, _<_}
 use native.Mathlib.Omega.{arith}
 use lib.Seq.{length-take-le}
 use denote.Ref.{now}
 use borrow.Author.Needs.{needs}
-use borrow.Author.Tests.{le-leb, lt-leb, not-true, not-false}
-use Rattle.reason.specs.Answer.{accepted}
+use borrow.Author.Tests.{le-leb, not-true, not-false}
+use Rattle.reason.specs.Answer.{accepted, refused}
 use Rattle.header.specs.declared.Header.{Header}
 use Rattle.header.specs.Items.{items, countOf}
-use Rattle.header.specs.Header.{beginsRight, headerLength, mandatory, every, once, headerSum, valuesAgree, headerOf, endsRight, allOnce, uploadRight, valuesRight, keepsRules}
+use Rattle.header.specs.Header.{beginsRight, headerLength, mandatory, every, once, headerSum, valuesAgree, headerOf, endsRight, allOnce, uploadRight, valuesRight, keepsRules, readHeader}
+use Rattle.header.specs.Rules.{Rules}
 use Rattle.header.specs.Notes.{noteOf, Noted}
 use Rattle.header.proofs.NoteLaws.{once-by-notes, values-by-notes, sum-by-notes, in-header, sum-in-header}
-use Rattle.header.proofs.HeaderLaws.{reads-8, reads-header}
+use Rattle.header.proofs.HeaderLaws.{reads-header}
+use Rattle.header.proofs.RulesKept.{begins-kept, once-kept, values-kept, refuses-if}
 use Rattle.header.proofs.read_header.Statement.{statement}
 use Rattle.header.proofs.read_header.Tie as tie
 
--- the five tests of the rules: one that fails, and all that hold
-no-1 : (a b c d e : Bool) → a ≡ false → (a && b && c && d && e) ≡ false
-no-1 a b c d e h = rw h
-
-no-2 : (a b c d e : Bool) → b ≡ false → (a && b && c && d && e) ≡ false
-no-2 a b c d e h = rw (h, and-false a)
-
-no-3 : (a b c d e : Bool) → c ≡ false → (a && b && c && d && e) ≡ false
-no-3 a b c d e h = rw (h, and-false (a && b))
-
-no-4 : (a b c d e : Bool) → d ≡ false → (a && b && c && d && e) ≡ false
-no-4 a b c d e h = rw (h, and-false (a && b && c))
-
-no-5 : (a b c d e : Bool) → e ≡ false → (a && b && c && d && e) ≡ false
-no-5 a b c d e h = rw (h, and-false (a && b && c && d))
-
+-- the five tests of the rules, where all hold
 all-5 : (a b c d e : Bool) → a ≡ true → b ≡ true → c ≡ true → d ≡ true → e ≡ true → (a && b && c && d && e) ≡ true
 all-5 a b c d e p q r s t = rw (p, q, r, s, t)
 
 module _ (s : List ℕ) (number : ℕ) where
-  not-begun : beginsRight s ≡ false → keepsRules s number ≡ false
-  unfolding keepsRules
-  not-begun h = no-1 (beginsRight s) (endsRight s) (allOnce s) (uploadRight s) (valuesRight s number) h
+  -- a test that the rules would pass and that fails
+  fails : (b : Bool) → (Rules s number → b ≡ true) → b ≡ false → refused 8 ≡ readHeader s number
+  fails b k h = sym (refuses-if s number (λ r. true≢false (sym (k r) ∙ h)))
+
+  not-begun : beginsRight s ≡ false → refused 8 ≡ readHeader s number
+  not-begun = fails (beginsRight s) (begins-kept s number)
 
   -- by the notes
   module _ (end : ℕ) (counts sizes starts : List ℕ) (noted : Noted s end counts sizes starts) where
-    not-ended : end ≡ 0 → keepsRules s number ≡ false
-    unfolding keepsRules
-    not-ended h = no-2 (beginsRight s) (endsRight s) (allOnce s) (uploadRight s) (valuesRight s number) (lt-leb 1 (headerLength s) (omega (arith, noted .ends)))
+    not-ended : end ≡ 0 → refused 8 ≡ readHeader s number
+    not-ended h = sym (refuses-if s number (λ r. omega (arith, noted .ends, r .ends)))
 
-    not-once : every (once (noteOf counts) (noteOf sizes)) mandatory ≡ false → keepsRules s number ≡ false
-    unfolding keepsRules
-    not-once h = no-3 (beginsRight s) (endsRight s) (allOnce s) (uploadRight s) (valuesRight s number) (sym (once-by-notes s end counts sizes starts noted) ∙ h)
+    not-once : every (once (noteOf counts) (noteOf sizes)) mandatory ≡ false → refused 8 ≡ readHeader s number
+    not-once h = fails (allOnce s) (once-kept s number) (sym (once-by-notes s end counts sizes starts noted) ∙ h)
 
-    twice : 1 < noteOf counts 0x12 → keepsRules s number ≡ false
-    unfolding keepsRules
-    twice h = no-4 (beginsRight s) (endsRight s) (allOnce s) (uploadRight s) (valuesRight s number) (lt-leb (countOf (items s) 0x12) 1 (omega (arith, noted .counted 0x12 (omega arith))))
+    twice : 1 < noteOf counts 0x12 → refused 8 ≡ readHeader s number
+    twice h = sym (refuses-if s number (λ r. omega (arith, noted .counted 0x12 (omega arith), r .upload)))
 
     -- what `agree` answered of the values and the sum
     module _ (h : Header) (sum : ℕ) (valued : h ≡ headerOf s) (summed : sum ≡ headerSum s) (r : Bool) (agreed : r ≡ valuesAgree h sum number) where
       agrees : valuesRight s number ≡ r
       agrees = ap₂ (λ (x : Header) (y : ℕ). valuesAgree x y number) (sym valued) (sym summed) ∙ sym agreed
 
-      not-agreed : r ≡ false → keepsRules s number ≡ false
-      unfolding keepsRules
-      not-agreed e = no-5 (beginsRight s) (endsRight s) (allOnce s) (uploadRight s) (valuesRight s number) (agrees ∙ e)
+      not-agreed : r ≡ false → refused 8 ≡ readHeader s number
+      not-agreed e = fails (valuesRight s number) (values-kept s number) (agrees ∙ e)
 
-      kept : beginsRight s ≡ true → 0 < end → every (once (noteOf counts) (noteOf sizes)) mandatory ≡ true → noteOf counts 0x12 ≤ 1 → r ≡ true
+      all-kept : beginsRight s ≡ true → 0 < end → every (once (noteOf counts) (noteOf sizes)) mandatory ≡ true → noteOf counts 0x12 ≤ 1 → r ≡ true
           → keepsRules s number ≡ true
       unfolding keepsRules
-      kept b e o u a =
+      all-kept b e o u a =
           all-5 (beginsRight s) (endsRight s) (allOnce s) (uploadRight s) (valuesRight s number) b
           (le-leb 1 (headerLength s) (omega (arith, noted .ends)))
           (sym (once-by-notes s end counts sizes starts noted) ∙ o)
@@ -94,13 +80,13 @@ begins-requires : tie.Need-begins-requires
 begins-requires c κs = search needs
 
 returns : tie.Need-returns
-returns c = let a = c .before .before .before .args in sym (reads-8 (now (a .s)) (a .number) (not-begun _ _ (sym (c .before .begins .ensures) ∙ not-true _ (c .if1 .taken))))
+returns c = let a = c .before .before .before .args in not-begun (now (a .s)) (a .number) (sym (c .before .begins .ensures) ∙ not-true _ (c .if1 .taken))
 
 walk-requires : tie.Need-walk-requires
 walk-requires c κs = search needs
 
 returns-2 : tie.Need-returns-2
-returns-2 c = let a = W (c .before) .args in sym (reads-8 (now (a .s)) (a .number) (not-ended _ _ _ _ _ _ (c .before .walk .ensures) (c .if2 .taken)))
+returns-2 c = let a = W (c .before) .args in not-ended (now (a .s)) (a .number) _ _ _ _ (c .before .walk .ensures) (c .if2 .taken)
 
 all-once-requires : tie.Need-all-once-requires
 all-once-requires c κs = search needs
@@ -109,7 +95,7 @@ returns-3 : tie.Need-returns-3
 returns-3 c =
     let w = c .before .before .before .before .before in
     let a = W w .args in
-    sym (reads-8 (now (a .s)) (a .number) (not-once _ _ _ _ _ _ (w .walk .ensures) (sym (c .before .all-once .ensures) ∙ not-true _ (c .if3 .taken))))
+    not-once (now (a .s)) (a .number) _ _ _ _ (w .walk .ensures) (sym (c .before .all-once .ensures) ∙ not-true _ (c .if3 .taken))
 
 array-read-if4 : tie.Need-array-read-if4
 array-read-if4 c = search needs
@@ -118,7 +104,7 @@ returns-4 : tie.Need-returns-4
 returns-4 c =
     let w = c .before .before .before .before .before .before in
     let a = W w .args in
-    sym (reads-8 (now (a .s)) (a .number) (twice _ _ _ _ _ _ (w .walk .ensures) (c .if4 .taken)))
+    twice (now (a .s)) (a .number) _ _ _ _ (w .walk .ensures) (c .if4 .taken)
 
 values-requires : tie.Need-values-requires
 values-requires c κs =
@@ -152,7 +138,7 @@ returns-5 c =
     let n = w .walk .ensures in
     let valued = b .before .before .values .ensures ∙ values-by-notes _ _ _ _ _ n in
     let summed = b .sum-but .ensures ∙ sum-by-notes _ _ _ _ _ n in
-    sym (reads-8 (now (a .s)) (a .number) (not-agreed _ _ _ _ _ _ n _ _ valued summed _ (c .before .agree .ensures) (not-true _ (c .if5 .taken))))
+    not-agreed (now (a .s)) (a .number) _ _ _ _ n _ _ valued summed _ (c .before .agree .ensures) (not-true _ (c .if5 .taken))
 
 returns-6 : tie.Need-returns-6
 returns-6 c =
@@ -165,7 +151,7 @@ returns-6 c =
     let summed = b .sum-but .ensures ∙ sum-by-notes _ _ _ _ _ n in
     let o = e .before .before in
     let begun = sym (w .before .before .before .before .before .begins .ensures) ∙ not-false _ (w .before .before .before .before .if1 .left) in
-    let k = kept _ _ _ _ _ _ n _ _ valued summed _ (c .before .agree .ensures) begun (ended e) (sym (o .all-once .ensures) ∙ listed e) (e .if4 .left) (not-false _ (c .if5 .left)) in
+    let k = all-kept _ _ _ _ _ _ n _ _ valued summed _ (c .before .agree .ensures) begun (ended e) (sym (o .all-once .ensures) ∙ listed e) (e .if4 .left) (not-false _ (c .if5 .left)) in
     ap accepted valued ∙ sym (reads-header (now (a .s)) (a .number) k)
 
 pub read-header-spec : {M : Type 1} → statement M
