@@ -1,4 +1,5 @@
 pub mod RunLaws
 pub mod NumberLaws
+pub mod ValueLaws
 pub mod OnlyOne
 pub mod Cases

@@ -1,5 +1,4 @@
 pub mod Xor
-pub mod Values
 pub mod Steps
 pub mod CheckLaws
 pub mod OnlyOne

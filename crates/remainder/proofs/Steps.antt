@@ -11,7 +11,7 @@ use lib.Bits.{bitXor, xor-shr, xor-mod, xor-zero-l, xor-zero-r, xor-block, xor-s
 use Rattle.remainder.specs.Remainder.{polynomial, withBit, withBits, bitsOf, messageBits, remainderOf}
 use Rattle.remainder.specs.ByteList.{remainderOfByte}
 use Rattle.remainder.proofs.Xor.{xor-assoc, xor-swap, xor-shl}
-use Rattle.remainder.proofs.Values.{same-values}
+use Rattle.octets.proofs.ValueLaws.{same-values}
 
 -- a bit of the message is the same as that bit at the top of the remainder
 at-top : (c bit : ℕ) → withBit c bit ≡ withBit (bitXor c (bit * 2 ^ 15)) 0

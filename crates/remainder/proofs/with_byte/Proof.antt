@@ -9,7 +9,7 @@ use lib.Bits.{bitXor}
 use borrow.Author.Needs.{needs}
 use Rattle.remainder.specs.Remainder.{withBits, bitsOf}
 use Rattle.remainder.specs.ByteList.{remainderOfByte, remainderList}
-use Rattle.remainder.proofs.Values.{value-at}
+use Rattle.octets.proofs.ValueLaws.{value-at}
 use Rattle.remainder.proofs.Steps.{index-below, by-entry}
 use Rattle.remainder.proofs.with_byte.Statement.{statement}
 use Rattle.remainder.proofs.with_byte.Tie as tie

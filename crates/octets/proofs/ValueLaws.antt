@@ -1,11 +1,11 @@
 -- What stands at each place of the list that a rule makes: a rule that is tested over a whole list holds at each entry.
 -- Assumes nothing.
-use mathlib.Core.Path.{_≡_, sym, ap, _∙_}
+use mathlib.Core.Path.{_≡_, refl, sym, ap, _∙_}
 use mathlib.Core.List.{List}
 use Prim.Native.Nat.{ℕ, zero, suc, _+_, _<_}
 use native.Mathlib.Nat.{add-zero, zero-add, add-suc, suc-add, le-of-suc-le-suc, not-suc-le-zero}
-use lib.ListN.{getD}
-use Rattle.remainder.specs.ByteList.{valuesFrom}
+use lib.ListN.{length, getD}
+use Rattle.octets.specs.Values.{valuesFrom}
 
 from : {A : Type 0} (f : ℕ → A) (d : A) (i n k : ℕ) → k < n → getD (valuesFrom f i n) k d ≡ f (i + k)
 from f d i zero k h = absurd (not-suc-le-zero h)
@@ -18,3 +18,8 @@ value-at f d n k h = from f d 0 n k h ∙ ap f (zero-add k)
 -- two rules whose lists are the same agree at each place
 pub same-values : {A : Type 0} (f g : ℕ → A) (n k : ℕ) → valuesFrom f 0 n ≡ valuesFrom g 0 n → k < n → f k ≡ g k
 same-values f g n k e h = sym (value-at f (f 0) n k h) ∙ ap (λ (l : List _). getD l k (f 0)) e ∙ value-at g (f 0) n k h
+
+-- a list of n values has n
+pub values-long : {A : Type 0} (f : ℕ → A) (i n : ℕ) → length (valuesFrom f i n) ≡ n
+values-long f i zero = refl
+values-long f i (suc n) = ap suc (values-long f (suc i) n)

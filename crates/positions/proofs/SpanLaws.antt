@@ -1,0 +1,170 @@
+-- Laws of positions one after the other: a question about all of them, told by each.
+-- Assumes nothing.
+use mathlib.Core.Path.{_≡_, refl, sym, ap, ap₂, _∙_}
+use mathlib.Core.Bool.{Bool, true, false, cond, _&&_, true≢false}
+use mathlib.Core.Logic.{_⊎_, inl, inr, ⊎-elim}
+use Prim.Native.Nat.{ℕ, zero, suc, _+_, _-_, _≤_, _<_}
+use native.Mathlib.Nat.{zero-add, suc-add, add-suc, add-zero, add-assoc}
+use native.Mathlib.Omega.{arith}
+use lib.Dec.{leb, ltb}
+use borrow.Author.Tests.{le-leb, lt-leb, lt-ltb, le-ltb, leb-true, ltb-true}
+use Rattle.reason.proofs.Bools.{and-left, and-right, and-both, le-or-lt}
+use Rattle.positions.specs.Spans.{within, every, count, first}
+
+-- ---- within a span, or not
+pub in-span : (p n q : ℕ) → p ≤ q → q < p + n → within p n q ≡ true
+in-span p n q h k = rw (le-leb p q h, lt-ltb q (p + n) k)
+
+pub before-span : (p n q : ℕ) → q < p → within p n q ≡ false
+before-span p n q h = rw (lt-leb p q h)
+
+pub behind-span : (p n q : ℕ) → p + n ≤ q → within p n q ≡ false
+behind-span p n q h = rw (le-leb p q (omega arith), le-ltb q (p + n) h)
+
+pub span-low : (p n q : ℕ) → within p n q ≡ true → p ≤ q
+span-low p n q e = leb-true p q (and-left (leb p q) (ltb q (p + n)) e)
+
+pub span-high : (p n q : ℕ) → within p n q ≡ true → q < p + n
+span-high p n q e = ltb-true q (p + n) (and-right (leb p q) (ltb q (p + n)) e)
+
+-- in a span, before it or behind it
+pub span-cases : (p n q : ℕ) → ((p ≤ q) × (q < p + n)) ⊎ ((q < p) ⊎ (p + n ≤ q))
+span-cases p n q =
+    ⊎-elim
+    (λ l. ⊎-elim (λ g. inr (inr g)) (λ g. inl (l, g)) (le-or-lt (p + n) q))
+    (λ g. inr (inl g))
+    (le-or-lt p q)
+
+pub no-between : (p q : ℕ) → p ≤ q → q < p → ⊥
+no-between p q l g = omega arith
+
+-- ---- the first position of a span, and the others
+here-or-later : (p q : ℕ) → p ≤ q → (p ≡ q) ⊎ (suc p ≤ q)
+here-or-later p q h = ⊎-elim (λ g. inl (omega arith)) (λ g. inr g) (le-or-lt q p)
+
+module _ (test : ℕ → Bool) where
+  -- ---- every position
+  pub all-if : (p n : ℕ) → ((q : ℕ) → p ≤ q → q < p + n → test q ≡ true) → every test p n ≡ true
+  unfolding every
+  all-if p zero h = refl
+  all-if p (suc n) h = and-both (test p) (every test (suc p) n) (h p (omega arith) (omega arith)) (all-if (suc p) n (λ q l g. h q (omega arith) (omega arith)))
+
+  pub all-at : (p n : ℕ) → every test p n ≡ true → (q : ℕ) → p ≤ q → q < p + n → test q ≡ true
+  unfolding every
+  all-at p zero e q l g = absurd (no-between p q l (omega arith))
+  all-at p (suc n) e q l g =
+      ⊎-elim
+      (λ s. ap test (sym s) ∙ and-left (test p) (every test (suc p) n) e)
+      (λ k. all-at (suc p) n (and-right (test p) (every test (suc p) n) e) q k (omega arith))
+      (here-or-later p q l)
+
+  told : (b : Bool) (p n q : ℕ) → every test p n ≡ b → p ≤ q → q < p + n → test q ≡ false → every test p n ≡ false
+  told true p n q e l g f = absurd (true≢false (sym (all-at p n e q l g) ∙ f))
+  told false p n q e l g f = e
+
+  pub not-all : (p n q : ℕ) → p ≤ q → q < p + n → test q ≡ false → every test p n ≡ false
+  not-all p n q l g f = told (every test p n) p n q refl l g f
+
+  -- ---- how many
+  pub count-none : (p : ℕ) → count test p 0 ≡ 0
+  unfolding count
+  count-none p = refl
+
+  pub count-split : (p n k : ℕ) → count test p (n + k) ≡ count test p n + count test (p + n) k
+  unfolding count
+  count-split p zero k = rw (zero-add k, add-zero p) (sym (zero-add (count test p k)))
+  count-split p (suc n) k =
+      rw (suc-add n k, count-split (suc p) n k, suc-add p n, add-suc p n)
+      (sym (add-assoc (cond (test p) 1 0) (count test (suc p) n) (count test (suc (p + n)) k)))
+
+  one-by : (b : Bool) → cond b 1 0 ≤ 1
+  one-by true = omega arith
+  one-by false = omega arith
+
+  pub count-most : (p n : ℕ) → count test p n ≤ n
+  unfolding count
+  count-most p zero = omega arith
+  count-most p (suc n) = let a = one-by (test p) in let b = count-most (suc p) n in omega arith
+
+  pub count-zero : (p n : ℕ) → ((q : ℕ) → p ≤ q → q < p + n → test q ≡ false) → count test p n ≡ 0
+  unfolding count
+  count-zero p zero h = refl
+  count-zero p (suc n) h = rw (h p (omega arith) (omega arith), count-zero (suc p) n (λ q l g. h q (omega arith) (omega arith)))
+
+  pub count-one : (p : ℕ) → count test p 1 ≡ cond (test p) 1 0
+  unfolding count
+  count-one p = add-zero (cond (test p) 1 0)
+
+  -- ---- the first
+  pub first-from : (p n : ℕ) → p ≤ first test p n
+  unfolding first
+  first-from p zero = omega arith
+  first-from p (suc n) = by (test p) (first-from (suc p) n)
+    where
+      by : (b : Bool) → suc p ≤ first test (suc p) n → p ≤ cond b p (first test (suc p) n)
+      by true h = omega arith
+      by false h = omega arith
+
+  pub first-by : (p n : ℕ) → first test p n ≤ p + n
+  unfolding first
+  first-by p zero = omega arith
+  first-by p (suc n) = by (test p) (first-by (suc p) n)
+    where
+      by : (b : Bool) → first test (suc p) n ≤ suc p + n → cond b p (first test (suc p) n) ≤ p + suc n
+      by true h = omega arith
+      by false h = omega arith
+
+  -- what is passed over fails the test, and what is found passes it
+  pub passed-over : (p n q : ℕ) → p ≤ q → q < first test p n → test q ≡ false
+  unfolding first
+  passed-over p zero q l g = absurd (no-between p q l g)
+  passed-over p (suc n) q l g = by (test p) refl g (λ s k. passed-over (suc p) n q s k)
+    where
+      by : (b : Bool) → test p ≡ b → q < cond b p (first test (suc p) n) → (suc p ≤ q → q < first test (suc p) n → test q ≡ false) → test q ≡ false
+      by true e k later = absurd (no-between p q l k)
+      by false e k later = ⊎-elim (λ s. ap test (sym s) ∙ e) (λ s. later s k) (here-or-later p q l)
+
+  pub found : (p n : ℕ) → first test p n < p + n → test (first test p n) ≡ true
+  unfolding first
+  found p zero g = absurd (no-between (p + 0) p (omega arith) g)
+  found p (suc n) g = by (test p) refl g (λ k. found (suc p) n k)
+    where
+      by : (b : Bool) → test p ≡ b → cond b p (first test (suc p) n) < p + suc n → (first test (suc p) n < suc p + n → test (first test (suc p) n) ≡ true)
+          → test (cond b p (first test (suc p) n)) ≡ true
+      by true e k later = e
+      by false e k later = later (omega arith)
+
+  -- and that fixes it: a position from p on, at most p + n, with none before it that passes, and passing itself if below p + n
+  pub first-is : (p n q : ℕ) → p ≤ q → q ≤ p + n → ((r : ℕ) → p ≤ r → r < q → test r ≡ false) → (q < p + n → test q ≡ true) → first test p n ≡ q
+  first-is p n q l g none here =
+      ⊎-elim
+      (λ a. ⊎-elim
+      (λ b. omega arith)
+      (λ b. absurd (true≢false (sym (found p n (omega arith)) ∙ none (first test p n) (first-from p n) b)))
+      (le-or-lt q (first test p n)))
+      (λ a. absurd (true≢false (sym (here (omega (arith, first-by p n))) ∙ passed-over p n q l a)))
+      (le-or-lt (first test p n) q)
+
+-- two tests that agree on a span
+pub count-same : (t u : ℕ → Bool) (p n : ℕ) → ((q : ℕ) → p ≤ q → q < p + n → t q ≡ u q) → count t p n ≡ count u p n
+unfolding count
+count-same t u p zero h = refl
+count-same t u p (suc n) h =
+    ap₂ (λ (b : Bool) (k : ℕ). cond b 1 0 + k) (h p (omega arith) (omega arith)) (count-same t u (suc p) n (λ q l g. h q (omega arith) (omega arith)))
+
+pub every-same : (t u : ℕ → Bool) (p n : ℕ) → ((q : ℕ) → p ≤ q → q < p + n → t q ≡ u q) → every t p n ≡ every u p n
+unfolding every
+every-same t u p zero h = refl
+every-same t u p (suc n) h = ap₂ _&&_ (h p (omega arith) (omega arith)) (every-same t u (suc p) n (λ q l g. h q (omega arith) (omega arith)))
+
+pub first-same : (t u : ℕ → Bool) (p n : ℕ) → ((q : ℕ) → p ≤ q → q < p + n → t q ≡ u q) → first t p n ≡ first u p n
+unfolding first
+first-same t u p zero h = refl
+first-same t u p (suc n) h =
+    ap₂ (λ (b : Bool) (k : ℕ). cond b p k) (h p (omega arith) (omega arith)) (first-same t u (suc p) n (λ q l g. h q (omega arith) (omega arith)))
+
+-- a span moved by d
+pub count-moved : (t : ℕ → Bool) (d p n : ℕ) → count t (d + p) n ≡ count (λ q. t (d + q)) p n
+unfolding count
+count-moved t d p zero = refl
+count-moved t d p (suc n) = rw (sym (add-suc d p), count-moved t d (suc p) n)
