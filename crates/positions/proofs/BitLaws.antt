@@ -1,18 +1,21 @@
 -- Laws of the bits of a byte, counted from the low end.
 -- Assumes nothing.
 use mathlib.Core.Path.{_≡_, refl, sym, ap, ap₂, _∙_, subst}
-use mathlib.Core.Bool.{Bool, true, false, cond}
+use mathlib.Core.Bool.{Bool, true, false, cond, not, _&&_, _||_}
 use Prim.Native.Nat.{ℕ, zero, suc, _+_, _-_, _*_, _/_, _%_, _^_, _≤_, _<_, max, min}
-use native.Mathlib.Nat.{one-mul, pow-suc, div-eq-of-lt, zero-add, add-suc, suc-add, add-zero, le-of-suc-le-suc, not-suc-le-zero}
+use native.Mathlib.Nat.{lt-of-lt-of-le, zero-div, one-mul, pow-suc, div-eq-of-lt, add-suc, suc-add, add-zero, le-of-suc-le-suc, not-suc-le-zero}
 use native.Mathlib.Omega.{arith}
 use native.Mathlib.Decide.{decLt}
-use lib.Arith.{digits-mod, lt-one}
-use lib.Bits.{bitOr, bitAnd, and-mask, or-step, or-shr}
-use lib.Pow.{shl-exact, shl-shr, shr-shr, pow-add, pow-lt}
+use lib.Arith.{digits-mod, digits-div, mod-mul, lt-one}
+use lib.Bits.{bitOr, bitAnd, and-mask, and-step, or-step, and-shr, or-shr}
+use lib.Pow.{shl-exact, shl-shr, shr-shr, pow-add, pow-lt, pow-mono, pow-pos}
 use lib.Dec.{lit<, eqb}
-use lib.Count.{ones, ones-step}
-use Rattle.positions.specs.Spans.{count}
-use Rattle.positions.specs.Map.{bit, bitsFrom}
+use lib.Count.{ones, ones-step, trailingZeros}
+use borrow.Author.Tests.{ne-eqb}
+use Rattle.octets.specs.Values.{valuesFrom}
+use Rattle.octets.proofs.ValueLaws.{same-values}
+use Rattle.positions.specs.Spans.{count, first}
+use Rattle.positions.specs.Map.{bit, isSet, bitsFrom}
 
 pub bit-lt : (a k : ℕ) → bit a k < 2
 unfolding bit
@@ -103,13 +106,13 @@ bit-from test p (suc n) (suc k) h =
     ∙ ap (λ (q : ℕ). cond (test q) 1 0) (suc-add p k ∙ sym (add-suc p k))
 
 -- ---- how many bits are set
-abbrev pub isSet : ℕ → ℕ → Bool
-isSet b k = eqb (bit b k) 1
+by-bit : (P : ℕ → Type 0) (x : ℕ) → x < 2 → P 0 → P 1 → P x
+by-bit P zero h none one = none
+by-bit P (suc zero) h none one = one
+by-bit P (suc (suc x)) h none one = absurd (not-suc-le-zero (le-of-suc-le-suc (le-of-suc-le-suc h)))
 
 one-bit : (x : ℕ) → x < 2 → cond (eqb x 1) 1 0 ≡ x
-one-bit zero h = refl
-one-bit (suc zero) h = refl
-one-bit (suc (suc x)) h = absurd (not-suc-le-zero (le-of-suc-le-suc (le-of-suc-le-suc h)))
+one-bit x h = by-bit (λ u. cond (eqb u 1) 1 0 ≡ u) x h refl refl
 
 shifted : (b p n : ℕ) → count (isSet (b / 2)) p n ≡ count (isSet b) (suc p) n
 unfolding count
@@ -123,3 +126,67 @@ ones-count (suc n) b h =
     let h′ : b < 2 ^ n * 2 = subst (λ (x : ℕ). b < x) (pow-suc 2 n) h in
     ones-step b
     ∙ ap₂ (λ (x y : ℕ). x + y) (sym (one-bit (bit b 0) (bit-lt b 0) ∙ bit-zero b)) (ones-count n (b / 2) (omega arith) ∙ shifted b 0 n)
+
+-- ---- the bits of `|`, `&`, a complement, a shift and a remainder
+max-set : (x y : ℕ) → x < 2 → y < 2 → eqb (max x y) 1 ≡ (eqb x 1 || eqb y 1)
+max-set x y g h =
+    by-bit (λ u. eqb (max u y) 1 ≡ (eqb u 1 || eqb y 1)) x g
+    (by-bit (λ v. eqb (max 0 v) 1 ≡ eqb v 1) y h refl refl)
+    (by-bit (λ v. eqb (max 1 v) 1 ≡ true) y h refl refl)
+
+min-set : (x y : ℕ) → x < 2 → y < 2 → eqb (min x y) 1 ≡ (eqb x 1 && eqb y 1)
+min-set x y g h =
+    by-bit (λ u. eqb (min u y) 1 ≡ (eqb u 1 && eqb y 1)) x g
+    (by-bit (λ v. eqb (min 0 v) 1 ≡ false) y h refl refl)
+    (by-bit (λ v. eqb (min 1 v) 1 ≡ eqb v 1) y h refl refl)
+
+pub set-or : (a b k : ℕ) → isSet (bitOr a b) k ≡ (isSet a k || isSet b k)
+set-or a b k = ap (λ (x : ℕ). eqb x 1) (bit-or a b k) ∙ max-set (bit a k) (bit b k) (bit-lt a k) (bit-lt b k)
+
+bit-and : (a b k : ℕ) → bit (bitAnd a b) k ≡ min (bit a k) (bit b k)
+unfolding bit
+bit-and a b k = ap (λ (x : ℕ). x % 2) (and-shr a b k ∙ and-step (a / 2 ^ k) (b / 2 ^ k)) ∙ digits-mod (bitAnd (a / 2 ^ k / 2) (b / 2 ^ k / 2)) (omega arith)
+
+pub set-and : (a b k : ℕ) → isSet (bitAnd a b) k ≡ (isSet a k && isSet b k)
+set-and a b k = ap (λ (x : ℕ). eqb x 1) (bit-and a b k) ∙ min-set (bit a k) (bit b k) (bit-lt a k) (bit-lt b k)
+
+pub set-not : (b k : ℕ) → b < 256 → k < 8 → isSet (255 - b) k ≡ not (isSet b k)
+unfolding bit
+set-not b k h l =
+    same-values (λ j. isSet (255 - b) j) (λ j. not (isSet b j)) 8 k
+    (same-values (λ x. valuesFrom (λ j. isSet (255 - x) j) 0 8) (λ x. valuesFrom (λ j. not (isSet x j)) 0 8) 256 b refl h) l
+
+pub set-shr : (b j k : ℕ) → isSet (b / 2 ^ j) k ≡ isSet b (j + k)
+unfolding bit
+set-shr b j k = ap (λ (x : ℕ). eqb (x % 2) 1) (shr-shr b j k)
+
+-- no bit of 0 is set, and none beyond a number's length
+pub set-none : (k : ℕ) → isSet 0 k ≡ false
+unfolding bit
+set-none k = ap (λ (x : ℕ). eqb (x % 2) 1) (zero-div (2 ^ k))
+
+pub set-high : (n b k : ℕ) → b < 2 ^ n → n ≤ k → isSet b k ≡ false
+unfolding bit
+set-high n b k h l = ap (λ (x : ℕ). eqb (x % 2) 1) (div-eq-of-lt (lt-of-lt-of-le h (pow-mono l)))
+
+-- the lowest n bits
+low-half : (b n : ℕ) → b % 2 ^ suc n / 2 ≡ b / 2 % 2 ^ n
+low-half b n = ap (λ (x : ℕ). b % x / 2) (pow-suc 2 n) ∙ ap (λ (x : ℕ). x / 2) (mod-mul b (pow-pos n) (omega arith)) ∙ digits-div (b / 2 % 2 ^ n) (omega arith)
+
+low-digit : (b n : ℕ) → b % 2 ^ suc n % 2 ≡ b % 2
+low-digit b n = ap (λ (x : ℕ). b % x % 2) (pow-suc 2 n) ∙ ap (λ (x : ℕ). x % 2) (mod-mul b (pow-pos n) (omega arith)) ∙ digits-mod (b / 2 % 2 ^ n) (omega arith)
+
+pub set-low : (n b k : ℕ) → k < n → isSet (b % 2 ^ n) k ≡ isSet b k
+set-low zero b k h = absurd (not-suc-le-zero h)
+set-low (suc n) b zero h = ap (λ (x : ℕ). eqb x 1) (bit-zero (b % 2 ^ suc n) ∙ low-digit b n ∙ sym (bit-zero b))
+set-low (suc n) b (suc k) h =
+    ap (λ (x : ℕ). eqb x 1) (sym (bit-half (b % 2 ^ suc n) k) ∙ ap (λ (x : ℕ). bit x k) (low-half b n))
+    ∙ set-low n (b / 2) k (le-of-suc-le-suc h)
+    ∙ ap (λ (x : ℕ). eqb x 1) (bit-half b k)
+
+-- the lowest bit that is set
+pub lowest-set : (b : ℕ) → b < 256 → (b ≡ 0 → ⊥) → trailingZeros 32 b ≡ first (isSet b) 0 8
+unfolding bit trailingZeros first
+lowest-set b h d =
+    ap (λ (e : Bool). cond e 8 (trailingZeros 32 b)) (sym (ne-eqb b 0 d))
+    ∙ same-values (λ x. cond (eqb x 0) 8 (trailingZeros 32 x)) (λ x. first (isSet x) 0 8) 256 b refl h

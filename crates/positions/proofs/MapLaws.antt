@@ -1,14 +1,14 @@
 -- Laws of a map: what one byte says of its eight positions, and that a map is what it holds.
 -- Assumes nothing.
-use mathlib.Core.Path.{_≡_, refl, sym, ap, ap₂, _∙_, subst}
+use mathlib.Core.Path.{_≡_, refl, sym, ap, ap₂, _∙_}
 use mathlib.Core.Bool.{Bool, true, false, cond, _||_, or-true, or-false}
 use mathlib.Core.Logic.{⊎-elim}
 use mathlib.Core.List.{List}
-use Prim.Native.Nat.{ℕ, zero, suc, _+_, _-_, _*_, _/_, _%_, _^_, _≤_, _<_, max}
+use Prim.Native.Nat.{ℕ, _+_, _*_, _/_, _%_, _^_, _≤_, _<_, max}
 use native.Mathlib.Nat.{zero-div, max-zero, zero-add, add-zero}
 use native.Mathlib.Decide.{ℕ-discrete}
 use native.Mathlib.Omega.{arith}
-use lib.ListN.{length, getD, set, List·getD-eq-default}
+use lib.ListN.{length, set, List·getD-eq-default}
 use lib.Seq.{getD-set-same, getD-set-other, ext-getD}
 use lib.Bits.{bitOr}
 use lib.Count.{ones}
@@ -16,12 +16,11 @@ use lib.Dec.{eqb}
 use borrow.Author.Tests.{eq-eqb, ne-eqb, eqb-true, eqb-false}
 use Rattle.reason.proofs.Bools.{le-or-lt}
 use Rattle.octets.specs.Numbers.{byteAt, AllBytes}
-use Rattle.octets.specs.Values.{valuesFrom}
 use Rattle.octets.proofs.ValueLaws.{value-at, same-values, values-long}
 use Rattle.positions.specs.Spans.{count}
-use Rattle.positions.specs.Map.{bit, held, mapSize, bitsFrom, mapOf}
-use Rattle.positions.proofs.BitLaws.{bit-lt, bits-ext, bit-or, bit-pow-same, bit-pow-other, bits-below, bit-from, isSet, ones-count}
-use Rattle.positions.proofs.SpanLaws.{count-same, count-moved}
+use Rattle.positions.specs.Map.{bit, isSet, held, bitsFrom, mapOf}
+use Rattle.positions.proofs.BitLaws.{bit-lt, bits-ext, bit-or, bit-pow-same, bit-pow-other, bits-below, bit-from, ones-count}
+use Rattle.positions.proofs.SpanLaws.{count-same, count-moved, count-split}
 
 -- ---- one position and its byte
 pub held-in : (m : List ℕ) (i k : ℕ) → k < 8 → held m (i * 8 + k) ≡ isSet (byteAt m i) k
@@ -59,6 +58,14 @@ byte-count m i h =
     ∙ count-moved (held m) (i * 8) 0 8
     ∙ count-same (λ k. held m (i * 8 + k)) (isSet (byteAt m i)) 0 8 (λ k _ l. held-in m i k (omega arith))
     ∙ sym (ones-count 8 (byteAt m i) h)
+
+-- .. and of one byte more
+pub count-byte : (m : List ℕ) (i : ℕ) → byteAt m i < 256 → count (held m) 0 (i * 8) + ones (byteAt m i) ≡ count (held m) 0 ((i + 1) * 8)
+count-byte m i h =
+    let e : i * 8 + 8 ≡ (i + 1) * 8 = omega arith in
+    ap (λ (n : ℕ). count (held m) 0 (i * 8) + n) (sym (byte-count m i h) ∙ ap (λ (p : ℕ). count (held m) p 8) (sym (zero-add (i * 8))))
+    ∙ sym (count-split (held m) 0 (i * 8) 8)
+    ∙ ap (count (held m) 0) e
 
 -- ---- one byte changed
 pub held-set : (m : List ℕ) (i b p : ℕ) → i < length m → p / 8 ≡ i → held (set m i b) p ≡ isSet b (p % 8)

@@ -1,13 +1,13 @@
 -- Laws of positions one after the other: a question about all of them, told by each.
 -- Assumes nothing.
 use mathlib.Core.Path.{_≡_, refl, sym, ap, ap₂, _∙_}
-use mathlib.Core.Bool.{Bool, true, false, cond, _&&_, true≢false}
+use mathlib.Core.Bool.{Bool, true, false, cond, not, _&&_, _||_, true≢false}
 use mathlib.Core.Logic.{_⊎_, inl, inr, ⊎-elim}
 use Prim.Native.Nat.{ℕ, zero, suc, _+_, _-_, _≤_, _<_}
 use native.Mathlib.Nat.{zero-add, suc-add, add-suc, add-zero, add-assoc}
 use native.Mathlib.Omega.{arith}
-use lib.Dec.{leb, ltb}
-use borrow.Author.Tests.{le-leb, lt-leb, lt-ltb, le-ltb, leb-true, ltb-true}
+use lib.Dec.{leb, ltb, eqb}
+use borrow.Author.Tests.{eq-eqb, ne-eqb, le-leb, lt-leb, lt-ltb, le-ltb, leb-true, ltb-true}
 use Rattle.reason.proofs.Bools.{and-left, and-right, and-both, le-or-lt}
 use Rattle.positions.specs.Spans.{within, every, count, first}
 
@@ -27,16 +27,37 @@ span-low p n q e = leb-true p q (and-left (leb p q) (ltb q (p + n)) e)
 pub span-high : (p n q : ℕ) → within p n q ≡ true → q < p + n
 span-high p n q e = ltb-true q (p + n) (and-right (leb p q) (ltb q (p + n)) e)
 
--- in a span, before it or behind it
-pub span-cases : (p n q : ℕ) → ((p ≤ q) × (q < p + n)) ⊎ ((q < p) ⊎ (p + n ≤ q))
-span-cases p n q =
-    ⊎-elim
-    (λ l. ⊎-elim (λ g. inr (inr g)) (λ g. inl (l, g)) (le-or-lt (p + n) q))
-    (λ g. inr (inl g))
-    (le-or-lt p q)
+-- a position is in a span, before it or behind it
+pub by-span : {P : Type 0} (p n q : ℕ) → (p ≤ q → q < p + n → P) → (q < p → P) → (p + n ≤ q → P) → P
+by-span p n q inside low high = ⊎-elim (λ l. ⊎-elim (λ g. high g) (λ g. inside l g) (le-or-lt (p + n) q)) (λ g. low g) (le-or-lt p q)
 
 pub no-between : (p q : ℕ) → p ≤ q → q < p → ⊥
 no-between p q l g = omega arith
+
+lower : (p q : ℕ) → q < p → q ≡ p → ⊥
+lower p q g e = omega arith
+
+higher : (p q : ℕ) → p + 1 ≤ q → q ≡ p → ⊥
+higher p q g e = omega arith
+
+-- two spans one after the other are one
+pub span-join : (p n k q : ℕ) → (within p n q || within (p + n) k q) ≡ within p (n + k) q
+span-join p n k q =
+    by-span p n q
+    (λ l g. rw (in-span p n q l g, in-span p (n + k) q l (omega arith)))
+    (λ g. rw (before-span p n q g, before-span (p + n) k q (omega arith), before-span p (n + k) q g))
+    (λ g. rw (behind-span p n q g) (by-span (p + n) k q
+    (λ l h. rw (in-span (p + n) k q l h, in-span p (n + k) q (omega arith) (omega arith)))
+    (λ h. absurd (no-between (p + n) q g h))
+    (λ h. rw (behind-span (p + n) k q h, behind-span p (n + k) q (omega arith)))))
+
+-- a span of one
+pub span-one : (p q : ℕ) → within p 1 q ≡ eqb q p
+span-one p q =
+    by-span p 1 q
+    (λ l g. rw (in-span p 1 q l g) (sym (eq-eqb q p (omega arith))))
+    (λ g. rw (before-span p 1 q g) (sym (ne-eqb q p (lower p q g))))
+    (λ g. rw (behind-span p 1 q g) (sym (ne-eqb q p (higher p q g))))
 
 -- ---- the first position of a span, and the others
 here-or-later : (p q : ℕ) → p ≤ q → (p ≡ q) ⊎ (suc p ≤ q)
@@ -64,6 +85,18 @@ module _ (test : ℕ → Bool) where
 
   pub not-all : (p n q : ℕ) → p ≤ q → q < p + n → test q ≡ false → every test p n ≡ false
   not-all p n q l g f = told (every test p n) p n q refl l g f
+
+  -- one position more
+  pub one-more : (p q : ℕ) → ((r : ℕ) → p ≤ r → r < q → test r ≡ true) → test q ≡ true → (r : ℕ) → p ≤ r → r < q + 1 → test r ≡ true
+  one-more p q before here r l g = ⊎-elim (λ h. let e : q ≡ r = omega arith in ap test (sym e) ∙ here) (λ h. before r l h) (le-or-lt q r)
+
+  -- where some of them do not all pass, they do not all pass
+  part-by : (b : Bool) (p n a k : ℕ) → every test p n ≡ b → p ≤ a → a + k ≤ p + n → every test a k ≡ false → every test p n ≡ false
+  part-by true p n a k e l g f = absurd (true≢false (sym (all-if a k (λ q h j. all-at p n e q (omega arith) (omega arith))) ∙ f))
+  part-by false p n a k e l g f = e
+
+  pub part-fails : (p n a k : ℕ) → p ≤ a → a + k ≤ p + n → every test a k ≡ false → every test p n ≡ false
+  part-fails p n a k l g f = part-by (every test p n) p n a k refl l g f
 
   -- ---- how many
   pub count-none : (p : ℕ) → count test p 0 ≡ 0
@@ -95,7 +128,25 @@ module _ (test : ℕ → Bool) where
   unfolding count
   count-one p = add-zero (cond (test p) 1 0)
 
+  -- one position more
+  pub count-more : (p n : ℕ) → count test p n + cond (test (p + n)) 1 0 ≡ count test p (n + 1)
+  count-more p n = ap (λ (k : ℕ). count test p n + k) (sym (count-one (p + n))) ∙ sym (count-split p n 1)
+
+  -- those that pass and those that do not
+  both-by : (b : Bool) → cond b 1 0 + cond (not b) 1 0 ≡ 1
+  both-by true = refl
+  both-by false = refl
+
+  pub count-both : (p n : ℕ) → count test p n + count (λ q. not (test q)) p n ≡ n
+  unfolding count
+  count-both p zero = refl
+  count-both p (suc n) = let a = both-by (test p) in let b = count-both (suc p) n in omega arith
+
   -- ---- the first
+  pub first-none : (p n : ℕ) → n ≤ p → first test p (n - p) ≡ p
+  unfolding first
+  first-none p n h = let e : n - p ≡ 0 = omega arith in rw e
+
   pub first-from : (p n : ℕ) → p ≤ first test p n
   unfolding first
   first-from p zero = omega arith
@@ -144,6 +195,15 @@ module _ (test : ℕ → Bool) where
       (le-or-lt q (first test p n)))
       (λ a. absurd (true≢false (sym (here (omega (arith, first-by p n))) ∙ passed-over p n q l a)))
       (le-or-lt (first test p n) q)
+
+  -- what fails the test can be passed over
+  pub first-skip : (p n q : ℕ) → p ≤ q → q ≤ n → ((r : ℕ) → p ≤ r → r < q → test r ≡ false) → first test p (n - p) ≡ first test q (n - q)
+  first-skip p n q l g none =
+      let a = first-from q (n - q) in
+      let b = first-by q (n - q) in
+      first-is p (n - p) (first test q (n - q)) (omega arith) (omega arith)
+      (λ r h k. ⊎-elim (λ w. passed-over q (n - q) r w k) (λ w. none r h w) (le-or-lt q r))
+      (λ h. found q (n - q) (omega arith))
 
 -- two tests that agree on a span
 pub count-same : (t u : ℕ → Bool) (p n : ℕ) → ((q : ℕ) → p ≤ q → q < p + n → t q ≡ u q) → count t p n ≡ count u p n

@@ -11,9 +11,12 @@ use Rattle.octets.specs.Values.{valuesFrom}
 unfoldable pub bit : ℕ → ℕ → ℕ
 bit b k = b / 2 ^ k % 2
 
+abbrev pub isSet : ℕ → ℕ → Bool
+isSet b k = eqb (bit b k) 1
+
 -- position p is bit p mod 8 of map byte p / 8; set means held
 unfoldable pub held : List ℕ → ℕ → Bool
-held map p = eqb (bit (byteAt map (p / 8)) (p % 8)) 1
+held map p = isSet (byteAt map (p / 8)) (p % 8)
 
 -- how many bytes a map of a file of l bytes has: l / 8, rounded up
 abbrev pub mapSize : ℕ → ℕ

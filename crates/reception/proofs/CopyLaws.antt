@@ -1,0 +1,68 @@
+-- Laws of runs of bytes that are copied: nothing, one byte, and two runs one after the other.
+-- Assumes nothing.
+use mathlib.Core.Path.{_≡_, refl, sym, ap, _∙_}
+use mathlib.Core.Bool.{Bool, true, false, cond, _&&_, _||_}
+use mathlib.Core.List.{List}
+use Prim.Native.Nat.{ℕ, _+_, _≤_, _<_}
+use native.Mathlib.Omega.{arith}
+use lib.ListN.{length, set, length-set}
+use lib.Seq.{getD-set-same, getD-set-other}
+use lib.Dec.{eqb}
+use borrow.Author.Tests.{eqb-true, eqb-false}
+use Rattle.octets.specs.Numbers.{byteAt}
+use Rattle.positions.specs.Spans.{within}
+use Rattle.positions.proofs.SpanLaws.{in-span, before-span, behind-span, by-span, span-join, span-one}
+use Rattle.reception.specs.Inner.{BufferRun}
+
+pub copy-nothing : (new : ℕ → Bool) (from b : List ℕ) (p n : ℕ) → ((q : ℕ) → p ≤ q → q < p + n → new q ≡ false) → BufferRun new from b p n b
+copy-nothing new from b p n none = record {
+  long = refl;
+  bytes = λ q _. by-span p n q
+      (λ l g. rw (in-span p n q l g, none q l g))
+      (λ g. rw (before-span p n q g))
+      (λ g. rw (behind-span p n q g));
+}
+
+one-by : (new : ℕ → Bool) (from b : List ℕ) (p q : ℕ) → p < length b → new p ≡ true → (w : Bool) → eqb q p ≡ w
+    → byteAt (set b p (byteAt from p)) q ≡ cond (w && new q) (byteAt from q) (byteAt b q)
+one-by new from b p q h there true e =
+    let s : q ≡ p = eqb-true q p e in
+    rw (s, there) (getD-set-same b p (byteAt from p) 0 h)
+one-by new from b p q h there false e = getD-set-other b p q (byteAt from p) 0 (eqb-false q p e)
+
+pub copy-one : (new : ℕ → Bool) (from b : List ℕ) (p : ℕ) → p < length b → new p ≡ true → BufferRun new from b p 1 (set b p (byteAt from p))
+copy-one new from b p h there = record {
+  long = length-set b p (byteAt from p);
+  bytes = λ q _. one-by new from b p q h there (eqb q p) refl ∙ ap (λ (w : Bool). cond (w && new q) (byteAt from q) (byteAt b q)) (sym (span-one p q));
+}
+
+-- a run behind another
+then-by : (w v a : Bool) (x y : ℕ) → cond (v && a) x (cond (w && a) x y) ≡ cond ((w || v) && a) x y
+then-by true true a x y = by a
+  where
+    by : (a : Bool) → cond a x (cond a x y) ≡ cond a x y
+    by true = refl
+    by false = refl
+then-by true false a x y = refl
+then-by false true a x y = refl
+then-by false false a x y = refl
+
+module _ (new : ℕ → Bool) (from b : List ℕ) (p n : ℕ) (b′ : List ℕ) (run : BufferRun new from b p n b′) where
+  -- the same run, told by another test that agrees with it there
+  pub copy-told : (also : ℕ → Bool) → ((q : ℕ) → p ≤ q → q < p + n → new q ≡ also q) → BufferRun also from b p n b′
+  copy-told also same = record {
+    long = run .long;
+    bytes = λ q h. run .bytes q h ∙ by-span p n q
+        (λ l g. ap (λ (a : Bool). cond (within p n q && a) (byteAt from q) (byteAt b q)) (same q l g))
+        (λ g. rw (before-span p n q g))
+        (λ g. rw (behind-span p n q g));
+  }
+
+  pub copy-then : (k : ℕ) (b″ : List ℕ) → BufferRun new from b′ (p + n) k b″ → BufferRun new from b p (n + k) b″
+  copy-then k b″ next = record {
+    long = next .long ∙ run .long;
+    bytes = λ q h. next .bytes q (let e = run .long in omega arith)
+        ∙ ap (λ (y : ℕ). cond (within (p + n) k q && new q) (byteAt from q) y) (run .bytes q h)
+        ∙ then-by (within p n q) (within (p + n) k q) (new q) (byteAt from q) (byteAt b q)
+        ∙ ap (λ (w : Bool). cond (w && new q) (byteAt from q) (byteAt b q)) (span-join p n k q);
+  }

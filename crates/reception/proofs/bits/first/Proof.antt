@@ -1,0 +1,100 @@
+-- `reception::bits::first` meets its contract: each byte is looked at once, and what is passed over is on the other side.
+-- Assumes nothing.
+use mathlib.Core.Path.{_≡_, ap}
+use mathlib.Core.Bool.{false}
+use Prim.Native.Nat.{ℕ, _+_, _-_, _/_, _%_, _^_, _≤_, _<_}
+use native.Mathlib.Omega.{arith}
+use borrow.Author.Needs.{needs}
+use Rattle.octets.specs.Numbers.{byteAt, AllBytes}
+use Rattle.positions.proofs.SpanLaws.{no-between}
+use Rattle.reception.specs.Inner.{onSide, sideOf}
+use Rattle.reception.proofs.SideLaws.{stops, stops-short, goes-on, ends}
+use Rattle.reception.proofs.bits.first.Statement.{statement}
+use Rattle.reception.proofs.bits.first.Tie as tie
+
+abbrev Inv-loop : tie.InvT-loop
+Inv-loop map from n side p₀ p = (from ≤ p) × (p ≤ n + 7) × ((q : ℕ) → from ≤ q → q < p → onSide map side q ≡ false)
+
+abbrev μ-loop : tie.MeasureT-loop
+μ-loop map from n side p₀ p = n - p
+
+loop-holds : tie.Need-loop-holds Inv-loop μ-loop
+loop-holds c = (omega arith, omega arith, λ q l g. absurd (no-between (c .before .args .from) q l g))
+
+shared-slice-read-side-of : tie.Need-shared-slice-read-side-of Inv-loop μ-loop
+shared-slice-read-side-of c = omega arith
+
+side-of-requires : tie.Need-side-of-requires Inv-loop μ-loop
+side-of-requires c κs = search needs
+
+cast-lowest-set : tie.Need-cast-lowest-set Inv-loop μ-loop
+cast-lowest-set c = omega arith
+
+shr-lowest-set : tie.Need-shr-lowest-set Inv-loop μ-loop
+shr-lowest-set c = omega arith
+
+lowest-set-requires : tie.Need-lowest-set-requires Inv-loop μ-loop
+lowest-set-requires c κs = search needs
+
+abbrev L : tie.After-lowest-set Inv-loop μ-loop → tie.At-loop Inv-loop μ-loop
+L c = c .before .before .before .before
+
+abbrev S : tie.After-lowest-set Inv-loop μ-loop → tie.Start Inv-loop μ-loop
+S c = c .before .before .before .before .before .before
+
+all : (c : tie.After-lowest-set Inv-loop μ-loop) → AllBytes (S c .args .map .now)
+all c i = c .before .before .before .before .before .shared-slice-known .given i .fits
+
+-- the byte that is searched: what is left of this map byte, on the side
+rest : (c : tie.After-lowest-set Inv-loop μ-loop)
+    → c .before .side-of .result / 2 ^ (L c .loop .p % 8) ≡ sideOf (byteAt (S c .args .map .now) (L c .loop .p / 8)) (S c .args .side) / 2 ^ (L c .loop .p % 8)
+rest c = ap (λ (x : ℕ). x / 2 ^ (L c .loop .p % 8)) (c .before .side-of .ensures)
+
+add-if2 : tie.Need-add-if2 Inv-loop μ-loop
+add-if2 c = omega arith
+
+add-result : tie.Need-add-result Inv-loop μ-loop
+add-result c = omega arith
+
+returns : tie.Need-returns Inv-loop μ-loop
+returns c = let d = c .before .before in stops (S d .args .map .now) (all d) (S d .args .side) (L d .loop .p) _ (rest d) (d .lowest-set .result) (d .lowest-set .ensures) (S d .args .from) (L d .loop .inv .0) (L d .loop .inv .2) (S d .args .n) (c .before .if1 .taken) (c .if2 .taken)
+
+returns-2 : tie.Need-returns-2 Inv-loop μ-loop
+returns-2 c = let d = c .before .before in stops-short (S d .args .map .now) (all d) (S d .args .side) (L d .loop .p) _ (rest d) (d .lowest-set .result) (d .lowest-set .ensures) (S d .args .from) (L d .loop .inv .0) (L d .loop .inv .2) (S d .args .n) (c .before .if1 .taken) (omega arith) (omega arith)
+
+mul-p : tie.Need-mul-p Inv-loop μ-loop
+mul-p c = omega arith
+
+add-p : tie.Need-add-p Inv-loop μ-loop
+add-p c = omega arith
+
+loop-less : tie.Need-loop-less Inv-loop μ-loop
+loop-less c = omega arith
+
+loop-again : tie.Need-loop-again Inv-loop μ-loop
+loop-again c = let d = c .before in (omega arith, omega arith, goes-on (S d .args .map .now) (all d) (S d .args .side) (L d .loop .p) _ (rest d) (d .lowest-set .result) (d .lowest-set .ensures) (S d .args .from) (L d .loop .inv .0) (L d .loop .inv .2) (omega arith))
+
+returns-3 : tie.Need-returns-3 Inv-loop μ-loop
+returns-3 c = let s = c .before .before .before in ends (s .args .map .now) (λ i. c .before .before .shared-slice-known .given i .fits) (s .args .side) (s .args .from) (s .args .n) (c .before .loop .p) (omega arith) (omega arith) (c .before .loop .inv .2)
+
+pub first-spec : {M : Type 1} → statement M
+first-spec =
+    tie.close
+    (tie.spec
+    Inv-loop
+    μ-loop
+    loop-holds
+    shared-slice-read-side-of
+    side-of-requires
+    cast-lowest-set
+    shr-lowest-set
+    lowest-set-requires
+    add-if2
+    add-result
+    returns
+    returns-2
+    mul-p
+    add-p
+    loop-less
+    loop-again
+    returns-3)

@@ -1,0 +1,164 @@
+-- `reception::join` meets its contract: the tests in their order, then what only the second holds is copied.
+-- Assumes nothing.
+use mathlib.Core.Path.{_≡_, refl, sym, ap, ap₂, _∙_}
+use mathlib.Core.Bool.{true, false, not, _&&_, _||_}
+use mathlib.Core.List.{List}
+use Prim.Native.Nat.{ℕ, _≤_}
+use native.Mathlib.Omega.{arith}
+use lib.Dec.{eqb}
+use lib.ListN.{length}
+use borrow.Author.Tests.{not-true, not-false, eqb-true}
+use borrow.Author.Needs.{needs}
+use Rattle.reason.specs.Answer.{accepted, refused}
+use Rattle.reason.proofs.Bools.{and-right, or-none}
+use Rattle.positions.specs.Spans.{every}
+use Rattle.positions.specs.Map.{held, mapSize}
+use Rattle.reception.specs.Reception.{Reception, wrongLength, shortSpace}
+use Rattle.reception.specs.Adding.{ofReception, agreesAt, agrees, newIn, Adds}
+use Rattle.reception.specs.Inner.{MapRun, BufferRun}
+use Rattle.reception.specs.Joining.{joining}
+use Rattle.reception.specs.declared.Added.the-variants.{Accepted, Refused}
+use Rattle.reception.proofs.MarkLaws.{run-map}
+use Rattle.reception.proofs.AddLaws.{right-length, enough-space, adds-refused, adds-accepted, run-buffer}
+use Rattle.reception.proofs.Answers.{joins-7, joins-12, joins-9, joins-11, joins}
+use Rattle.reception.proofs.join.Statement.{statement}
+use Rattle.reception.proofs.join.Tie as tie
+
+-- adding what the second holds below its length, where the lengths are the same
+adds-joined : (s t : Reception) (l r : ℕ) (map buffer : List ℕ) → l ≡ t .length → joining s t ≡ accepted (newIn s (ofReception t)) → MapRun (s .map) (held (t .map)) 0 l map r
+    → BufferRun (λ q. held (t .map) q && not (held (s .map) q)) (t .buffer) (s .buffer) 0 l buffer → Adds s (ofReception t) (joining s t) (Accepted r) map buffer
+adds-joined s t l r map buffer e is run copied =
+    adds-accepted s (ofReception t) (joining s t) map buffer r (is ∙ ap accepted (sym (more .new))) (run-map (s .map) (held (t .map)) 0 (t .length) map r more)
+    (run-buffer (λ q. held (t .map) q && not (held (s .map) q)) (t .buffer) (s .buffer) 0 (t .length) buffer (rw e at copied))
+  where
+    more : MapRun (s .map) (held (t .map)) 0 (t .length) map r
+    more = rw e at run
+
+wrong-length-requires : tie.Need-wrong-length-requires
+wrong-length-requires c κs = search needs
+
+wrong-length-requires-2 : tie.Need-wrong-length-requires-2
+wrong-length-requires-2 c κs = search needs
+
+-- the two receptions that are lent
+abbrev s : tie.Start → Reception
+s c = record { number = c .args .number; length = c .args .length; map = c .args .map .now; buffer = c .args .buffer .now }
+
+abbrev t : tie.Start → Reception
+t c = record { number = c .args .other-number; length = c .args .other-length; map = c .args .other-map .now; buffer = c .args .other-buffer .now }
+
+refuses : (c : tie.Start) (n : ℕ) → joining (s c) (t c) ≡ refused n → Adds (s c) (ofReception (t c)) (joining (s c) (t c)) (Refused n) (s c .map) (s c .buffer)
+refuses c n e = adds-refused (s c) (ofReception (t c)) (joining (s c) (t c)) (s c .map) (s c .buffer) n e refl refl
+
+returns : tie.Need-returns
+returns c = refuses (c .before .before .before .before .before .before .before) 7 (joins-7 (s (c .before .before .before .before .before .before .before)) (t (c .before .before .before .before .before .before .before)) (sym (ap₂ _||_ (c .before .before .wrong-length .ensures) (c .before .wrong-length2 .ensures)) ∙ c .if1 .taken))
+
+short-requires : tie.Need-short-requires
+short-requires c κs = search needs
+
+short-requires-2 : tie.Need-short-requires-2
+short-requires-2 c κs = search needs
+
+same-length : tie.Need-same-length
+same-length c = search needs
+
+same-length-2 : tie.Need-same-length-2
+same-length-2 c = search needs
+
+abbrev S : tie.Else1 → tie.Start
+S c = c .before .before .before .before .before .before .before
+
+right : (c : tie.Else1) → (wrongLength (S c .args .length) || wrongLength (S c .args .other-length)) ≡ false
+right c = sym (ap₂ _||_ (c .before .before .wrong-length .ensures) (c .before .wrong-length2 .ensures)) ∙ c .if1 .left
+
+returns-2 : tie.Need-returns-2
+returns-2 c = let d = c .before .before .before .before .before in refuses (S d) 12 (joins-12 (s (S d)) (t (S d)) (right d) (sym (ap₂ _||_ (c .before .before .short .ensures) (c .before .short2 .ensures)) ∙ c .if2 .taken))
+
+same-length-3 : tie.Need-same-length-3
+same-length-3 c = search needs
+
+same-length-4 : tie.Need-same-length-4
+same-length-4 c = search needs
+
+abbrev D : tie.Else2 → tie.Else1
+D c = c .before .before .before .before .before
+
+room : (c : tie.Else2)
+    → (shortSpace (S (D c) .args .length) (S (D c) .args .map .now) (S (D c) .args .buffer .now) || shortSpace (S (D c) .args .other-length) (S (D c) .args .other-map .now) (S (D c) .args .other-buffer .now)) ≡ false
+room c = sym (ap₂ _||_ (c .before .before .short .ensures) (c .before .short2 .ensures)) ∙ c .if2 .left
+
+returns-3 : tie.Need-returns-3
+returns-3 c = let e = c .before in let d = D e in refuses (S d) 9 (joins-9 (s (S d)) (t (S d)) (right d) (room e) (not-true _ (c .if3 .taken)))
+
+abbrev T : tie.Else3 → tie.Start
+T c = S (D (c .before))
+
+same : (c : tie.Else3) → (eqb (T c .args .number) (T c .args .other-number) && eqb (T c .args .length) (T c .args .other-length)) ≡ true
+same c = not-false _ (c .if3 .left)
+
+lengths : (c : tie.Else3) → T c .args .length ≡ T c .args .other-length
+lengths c = eqb-true (T c .args .length) (T c .args .other-length) (and-right (eqb (T c .args .number) (T c .args .other-number)) (eqb (T c .args .length) (T c .args .other-length)) (same c))
+
+-- room for the first's length in both
+enough : (c : tie.Else3)
+    → (T c .args .length ≤ 32768) × (mapSize (T c .args .length) ≤ length (T c .args .map .now)) × (T c .args .length ≤ length (T c .args .buffer .now)) × (mapSize (T c .args .length) ≤ length (T c .args .other-map .now)) × (T c .args .length ≤ length (T c .args .other-buffer .now))
+enough c =
+    let r = or-none (wrongLength (T c .args .length)) _ (right (D (c .before))) in
+    let f = or-none (shortSpace (T c .args .length) (T c .args .map .now) (T c .args .buffer .now)) _ (room (c .before)) in
+    let first = enough-space (T c .args .length) (T c .args .map .now) (T c .args .buffer .now) (f .0) in
+    let second = enough-space (T c .args .other-length) (T c .args .other-map .now) (T c .args .other-buffer .now) (f .1) in
+    let l = right-length (T c .args .length) (r .0) in
+    let e = lengths c in
+    (l .1, first .0, first .1, omega (arith, e, second), omega (arith, e, second))
+
+-- what is asked of the positions below the first's length is asked of those below the second's
+agreed : (c : tie.Else3) → agrees (s (T c)) (ofReception (t (T c))) ≡ every (agreesAt (s (T c)) (ofReception (t (T c)))) 0 (T c .args .length)
+agreed c = ap (every (agreesAt (s (T c)) (ofReception (t (T c)))) 0) (sym (lengths c))
+
+agree-requires : tie.Need-agree-requires
+agree-requires c κs = let w = enough (c .before .before) in (omega (arith, w), omega (arith, w), omega (arith, w), omega (arith, w), omega (arith, w))
+
+same-length-5 : tie.Need-same-length-5
+same-length-5 c = search needs
+
+same-length-6 : tie.Need-same-length-6
+same-length-6 c = search needs
+
+returns-4 : tie.Need-returns-4
+returns-4 c = let f = c .before .before .before .before in let e = f .before in let d = D e in refuses (S d) 11 (joins-11 (s (S d)) (t (S d)) (right d) (room e) (same f) (agreed f ∙ sym (c .before .agree .ensures) ∙ not-true (c .before .agree .result) (c .if4 .taken)))
+
+add-requires : tie.Need-add-requires
+add-requires c κs = let w = enough (c .before .before .before .before .before .before) in (omega (arith, w), omega (arith, w), omega (arith, w), omega (arith, w), omega (arith, w))
+
+same-length-7 : tie.Need-same-length-7
+same-length-7 c = search needs
+
+same-length-8 : tie.Need-same-length-8
+same-length-8 c = search needs
+
+returns-5 : tie.Need-returns-5
+returns-5 c = let f = c .before .before .before .before .before .before .before .before .before .before .before in let e = f .before in let d = D e in adds-joined (s (S d)) (t (S d)) (S d .args .length) (c .before .before .before .before .add .result) _ _ (lengths f) (joins (s (S d)) (t (S d)) (right d) (room e) (same f) (agreed f ∙ sym (c .before .before .before .before .before .before .before .before .agree .ensures) ∙ not-false (c .before .before .before .before .before .before .before .before .agree .result) (c .before .before .before .before .before .before .before .if4 .left))) (c .before .before .before .before .add .ensures .0) (c .before .before .before .before .add .ensures .1)
+
+pub join-spec : {M : Type 1} → statement M
+join-spec =
+    tie.close
+    (tie.spec
+    wrong-length-requires
+    wrong-length-requires-2
+    returns
+    short-requires
+    short-requires-2
+    same-length
+    same-length-2
+    returns-2
+    same-length-3
+    same-length-4
+    returns-3
+    agree-requires
+    same-length-5
+    same-length-6
+    returns-4
+    add-requires
+    same-length-7
+    same-length-8
+    returns-5)

@@ -1,0 +1,58 @@
+-- Holes (01, "Reception"): the longest runs of unheld positions below L.
+-- Assumes nothing.
+use mathlib.Core.Bool.{Bool, true, not, _&&_}
+use mathlib.Core.List.{List, [], _∷_}
+use Prim.Native.Nat.{ℕ, zero, suc, _-_}
+use lib.Dec.{leb, ltb}
+use Rattle.reason.specs.Answer.{Answer, accepted, refused}
+use Rattle.reason.specs.Order.{Check, check, firstOf}
+use Rattle.positions.specs.Spans.{first, count}
+use Rattle.positions.specs.Map.{held}
+use Rattle.reception.specs.Reception.{wrongLength, shortMap}
+use Rattle.reception.specs.declared.Hole.{Hole}
+use Rattle.reception.specs.declared.Listed.{Listed}
+use Rattle.reception.specs.declared.Listed.the-variants.{Accepted, Refused}
+
+-- no unheld position stands right before p
+abbrev pub heldBefore : List ℕ → ℕ → Bool
+heldBefore map zero = true
+heldBefore map (suc p) = held map p
+
+-- a hole starts at p
+abbrev pub startsHole : List ℕ → ℕ → Bool
+startsHole map p = not (held map p) && heldBefore map p
+
+-- the first position below l, from a place on, where a hole starts; where there is none, one that is not below l
+abbrev pub holeStart : ℕ → List ℕ → ℕ → ℕ
+holeStart l map place = first (startsHole map) place (l - place)
+
+-- the end of a hole: the first held position behind its start, or l
+abbrev pub holeEnd : ℕ → List ℕ → ℕ → ℕ
+holeEnd l map start = first (held map) start (l - start)
+
+-- the first hole that starts at the place or later
+abbrev pub holeFrom : ℕ → List ℕ → ℕ → Hole
+holeFrom l map place =
+    let start = holeStart l map place in
+    record { start = start; length = holeEnd l map start - start }
+
+-- "Listing: 7, 12, 15"
+abbrev pub listingChecks : ℕ → List ℕ → ℕ → List Check
+listingChecks l map place = check (wrongLength l) 7 ∷ check (shortMap l map) 12 ∷ check (leb l (holeStart l map place)) 15 ∷ []
+
+-- the answer: start and length of the hole, or the reason
+unfoldable pub listing : ℕ → List ℕ → ℕ → Answer Hole
+listing l map place = firstOf (listingChecks l map place) (holeFrom l map place)
+
+-- the paper's number and values for each case of a `Listed`
+abbrev pub listedAnswer : Listed → Answer Hole
+listedAnswer (Accepted hole) = accepted hole
+listedAnswer (Refused n) = refused n
+
+-- a position of the file, below l, that is held: what a host asks; a spare bit is no position of the file
+abbrev pub heldOf : ℕ → List ℕ → ℕ → Bool
+heldOf l map p = ltb p l && held map p
+
+-- how many positions of the file are held
+abbrev pub heldCount : ℕ → List ℕ → ℕ
+heldCount l map = count (held map) 0 l

@@ -1,0 +1,147 @@
+// Joining a second reception into a first: whether they agree, and the second's positions copied.
+use super::bits;
+ghost use mathlib.Core.Path.{_≡_};
+ghost use mathlib.Core.Bool.{_&&_, not};
+ghost use Prim.Native.Nat.{_+_, _-_, _*_, _/_, _%_, _^_, _≤_, _<_};
+ghost use lib.ListN.{length};
+ghost use Rattle.positions.specs.Spans.{every};
+ghost use Rattle.positions.specs.Map.{held, isSet};
+ghost use Rattle.reception.specs.Inner.{upTo, bytesAgree, bothAgree, MapRun, BufferRun};
+
+// Where the positions of a byte that are below n end.
+fn byte_end(from: usize, n: usize) -> usize
+    requires { ⌜ from < 32768 ⌝ }
+    ensures { λ r. ⌜ r ≡ upTo from n ⌝ }
+{
+    if from + 8 <= n { from + 8 } else { n }
+}
+
+// Whether a bit of a byte is set.
+fn is_set(b: u8, k: usize) -> bool
+    requires { ⌜ k < 8 ⌝ }
+    ensures { λ r. ⌜ r ≡ isSet b k ⌝ }
+{
+    (b >> k) & 1 == 1
+}
+
+// Whether position p, where its bit in `both` is set, has the same byte in both buffers.
+fn agrees_at(both: u8, buffer: &[u8], bytes: &[u8], from: usize, p: usize) -> bool
+    requires { ⌜ (from ≤ p) × (p < from + 8) × (p < length (now buffer)) × (p < length (now bytes)) ⌝ }
+    ensures { λ r. ⌜ r ≡ bytesAgree both (now (buffer .entry)) (now (bytes .entry)) from p ⌝ }
+{
+    if !is_set(both, p - from) {
+        return true;
+    }
+    buffer[p] == bytes[p]
+}
+
+// Whether two buffers agree at those positions from `from` on and below `end` whose bit is set in
+// `both`.
+fn agree_byte(both: u8, buffer: &[u8], bytes: &[u8], from: usize, end: usize) -> bool
+    requires { ⌜ (from ≤ end) × (end ≤ from + 8) × (end ≤ length (now buffer)) × (end ≤ length (now bytes)) ⌝ }
+    ensures { λ r. ⌜ r ≡ every (bytesAgree both (now (buffer .entry)) (now (bytes .entry)) from) from (end - from) ⌝ }
+{
+    if both == 0 {
+        return true;
+    }
+    let mut p = from;
+    while p < end {
+        if !agrees_at(both, buffer, bytes, from, p) {
+            return false;
+        }
+        p += 1;
+    }
+    true
+}
+
+// Whether two receptions agree at each position below n that both hold. Bytes of the maps with no such
+// position are passed over.
+pub(crate) fn agree(map: &[u8], buffer: &[u8], other: &[u8], bytes: &[u8], n: usize) -> bool
+    requires { ⌜ (n ≤ 32768) × (n ≤ length (now map) * 8) × (n ≤ length (now buffer)) × (n ≤ length (now other) * 8) × (n ≤ length (now bytes)) ⌝ }
+    ensures { λ r. ⌜ r ≡ every (bothAgree (now (map .entry)) (now (buffer .entry)) (now (other .entry)) (now (bytes .entry))) 0 n ⌝ }
+{
+    let mut p = 0;
+    while p < n {
+        let both = map[p / 8] & other[p / 8];
+        let end = byte_end(p, n);
+        if !agree_byte(both, buffer, bytes, p, end) {
+            return false;
+        }
+        p = end;
+    }
+    true
+}
+
+// The lowest k bits of a byte.
+fn lowest(b: u8, k: usize) -> u8
+    requires { ⌜ k ≤ 8 ⌝ }
+    ensures { λ r. ⌜ r ≡ b % 2 ^ k ⌝ }
+{
+    if k == 8 {
+        return b;
+    }
+    b & ((1 << k) - 1)
+}
+
+// Copies the byte of position p where its bit in `new` is set.
+fn copy_at(buffer: &mut [u8], bytes: &[u8], new: u8, from: usize, p: usize)
+    requires { ⌜ (from ≤ p) × (p < from + 8) × (p < length (now buffer)) × (p < length (now bytes)) ⌝ }
+    ensures { λ _. ⌜ BufferRun (λ q. isSet new (q - from)) (now (bytes .entry)) (now (buffer .entry)) p 1 (now (buffer .exit)) ⌝ }
+{
+    if is_set(new, p - from) {
+        buffer[p] = bytes[p];
+    }
+}
+
+// Copies the bytes of those positions from `from` on and below `end` whose bit is set in `new`.
+fn copy(buffer: &mut [u8], bytes: &[u8], new: u8, from: usize, end: usize)
+    requires { ⌜ (from ≤ end) × (end ≤ from + 8) × (end ≤ length (now buffer)) × (end ≤ length (now bytes)) ⌝ }
+    ensures { λ _. ⌜ BufferRun (λ q. isSet new (q - from)) (now (bytes .entry)) (now (buffer .entry)) from (end - from) (now (buffer .exit)) ⌝ }
+{
+    let mut p = from;
+    while p < end {
+        copy_at(buffer, bytes, new, from, p);
+        p += 1;
+    }
+}
+
+// Copies what only the second reception holds of the positions from `from` on and below `end`, which are
+// of one map byte; `theirs` is that byte of the second's map without other positions. How many they are.
+fn add_byte(
+    map: &mut [u8],
+    buffer: &mut [u8],
+    theirs: u8,
+    bytes: &[u8],
+    from: usize,
+    end: usize,
+) -> u32
+    requires { ⌜ (from % 8 ≡ 0) × (from ≤ end) × (end ≤ from + 8) × (from / 8 < length (now map)) × (end ≤ length (now buffer)) × (end ≤ length (now bytes)) × (theirs < 2 ^ (end - from)) ⌝ }
+    ensures { λ r. ⌜ MapRun (now (map .entry)) (λ q. isSet theirs (q - from)) from (end - from) (now (map .exit)) r ⌝ }
+    ensures { λ r. ⌜ BufferRun (λ q. isSet theirs (q - from) && not (held (now (map .entry)) q)) (now (bytes .entry)) (now (buffer .entry)) from (end - from) (now (buffer .exit)) ⌝ }
+{
+    let have = map[from / 8];
+    let new = theirs & (255 - have);
+    if new == 0 {
+        return 0;
+    }
+    map[from / 8] = have | theirs;
+    copy(buffer, bytes, new, from, end);
+    bits::count_set(new)
+}
+
+// Copies each position below n that only the second reception holds into the first; how many they are.
+pub(crate) fn add(map: &mut [u8], buffer: &mut [u8], other: &[u8], bytes: &[u8], n: usize) -> u32
+    requires { ⌜ (n ≤ 32768) × (n ≤ length (now map) * 8) × (n ≤ length (now buffer)) × (n ≤ length (now other) * 8) × (n ≤ length (now bytes)) ⌝ }
+    ensures { λ r. ⌜ MapRun (now (map .entry)) (held (now (other .entry))) 0 n (now (map .exit)) r ⌝ }
+    ensures { λ r. ⌜ BufferRun (λ q. held (now (other .entry)) q && not (held (now (map .entry)) q)) (now (bytes .entry)) (now (buffer .entry)) 0 n (now (buffer .exit)) ⌝ }
+{
+    let mut new = 0;
+    let mut p = 0;
+    while p < n {
+        let end = byte_end(p, n);
+        let theirs = lowest(other[p / 8], end - p);
+        new += add_byte(map, buffer, theirs, bytes, p, end);
+        p = end;
+    }
+    new
+}

@@ -1,0 +1,110 @@
+// Taking a piece in: whether it agrees with what is held, and its positions marked.
+use super::bits;
+ghost use mathlib.Core.Path.{_≡_};
+ghost use mathlib.Core.Bool.{true};
+ghost use Prim.Native.Nat.{_+_, _*_, _/_, _≤_, _<_};
+ghost use lib.ListN.{length};
+ghost use Rattle.positions.specs.Spans.{every};
+ghost use Rattle.reception.specs.Inner.{pieceAgrees, spanAt, emptyAhead, MapRun};
+
+// How many positions from p on are looked at in one step: 8 where an empty byte starts at p, else 1.
+fn ahead(map: &[u8], p: usize) -> usize
+    requires { ⌜ p / 8 < length (now map) ⌝ }
+    ensures { λ r. ⌜ r ≡ emptyAhead (now (map .entry)) p ⌝ }
+{
+    if p % 8 == 0 {
+        if map[p / 8] == 0 {
+            return 8;
+        }
+    }
+    1
+}
+
+// Whether position p is not held, or has the byte of the piece that is put at a position.
+fn agrees_at(map: &[u8], buffer: &[u8], at: usize, piece: &[u8], p: usize) -> bool
+    requires { ⌜ (at ≤ p) × (p < at + length (now piece)) × (p / 8 < length (now map)) × (p < length (now buffer)) ⌝ }
+    ensures { λ r. ⌜ r ≡ pieceAgrees (now (map .entry)) (now (buffer .entry)) at (now (piece .entry)) p ⌝ }
+{
+    if !bits::test(map, p) {
+        return true;
+    }
+    buffer[p] == piece[p - at]
+}
+
+// Whether the piece, put at a position, agrees with every byte that is held.
+pub(crate) fn agree(map: &[u8], buffer: &[u8], at: usize, piece: &[u8]) -> bool
+    requires { ⌜ (at + length (now piece) ≤ 32768) × (at + length (now piece) ≤ length (now map) * 8) × (at + length (now piece) ≤ length (now buffer)) ⌝ }
+    ensures { λ r. ⌜ r ≡ every (pieceAgrees (now (map .entry)) (now (buffer .entry)) at (now (piece .entry))) at (length (now (piece .entry))) ⌝ }
+{
+    let end = at + piece.len();
+    let mut p = at;
+    while p < end {
+        if !agrees_at(map, buffer, at, piece, p) {
+            return false;
+        }
+        p += ahead(map, p);
+    }
+    true
+}
+
+// How many positions from p on are marked in one step: 8 where a whole byte below `end` starts at p,
+// else 1.
+fn span(p: usize, end: usize) -> usize
+    requires { ⌜ (p < end) × (end ≤ 32768) ⌝ }
+    ensures { λ r. ⌜ r ≡ spanAt p end ⌝ }
+{
+    if p % 8 == 0 {
+        if p + 8 <= end {
+            return 8;
+        }
+    }
+    1
+}
+
+// Position p becomes held; 1 if it was not, else 0.
+fn hold_one(map: &mut [u8], p: usize) -> u32
+    requires { ⌜ p / 8 < length (now map) ⌝ }
+    ensures { λ r. ⌜ MapRun (now (map .entry)) (λ q. true) p 1 (now (map .exit)) r ⌝ }
+{
+    if bits::test(map, p) {
+        return 0;
+    }
+    bits::mark(map, p);
+    1
+}
+
+// The eight positions of map byte i become held; how many were not.
+fn hold_eight(map: &mut [u8], i: usize) -> u32
+    requires { ⌜ i < length (now map) ⌝ }
+    ensures { λ r. ⌜ MapRun (now (map .entry)) (λ q. true) (i * 8) 8 (now (map .exit)) r ⌝ }
+{
+    let held = bits::count_set(map[i]);
+    map[i] = 255;
+    8 - held
+}
+
+// The positions of one step from p on become held; how many were not.
+fn hold_next(map: &mut [u8], p: usize, end: usize) -> u32
+    requires { ⌜ (p < end) × (end ≤ 32768) × (end ≤ length (now map) * 8) ⌝ }
+    ensures { λ r. ⌜ MapRun (now (map .entry)) (λ q. true) p (spanAt p end) (now (map .exit)) r ⌝ }
+{
+    if span(p, end) == 8 {
+        return hold_eight(map, p / 8);
+    }
+    hold_one(map, p)
+}
+
+// The n positions from a position on become held; how many were not.
+pub(crate) fn hold(map: &mut [u8], at: usize, n: usize) -> u32
+    requires { ⌜ (at + n ≤ 32768) × (at + n ≤ length (now map) * 8) ⌝ }
+    ensures { λ r. ⌜ MapRun (now (map .entry)) (λ q. true) at n (now (map .exit)) r ⌝ }
+{
+    let end = at + n;
+    let mut new = 0;
+    let mut p = at;
+    while p < end {
+        new += hold_next(map, p, end);
+        p += span(p, end);
+    }
+    new
+}
