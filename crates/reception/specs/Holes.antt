@@ -1,12 +1,13 @@
 -- Holes (01, "Reception"): the longest runs of unheld positions below L.
 -- Assumes nothing.
-use mathlib.Core.Bool.{Bool, true, not, _&&_}
+use mathlib.Core.Path.{_≡_}
+use mathlib.Core.Bool.{Bool, true, false, not, _&&_}
 use mathlib.Core.List.{List, [], _∷_}
-use Prim.Native.Nat.{ℕ, zero, suc, _-_}
-use lib.Dec.{leb, ltb}
+use Prim.Native.Nat.{ℕ, zero, suc, _+_, _-_, _≤_, _<_}
+use lib.Dec.{leb}
 use Rattle.reason.specs.Answer.{Answer, accepted, refused}
 use Rattle.reason.specs.Order.{Check, check, firstOf}
-use Rattle.positions.specs.Spans.{first, count}
+use Rattle.positions.specs.Spans.{first}
 use Rattle.positions.specs.Map.{held}
 use Rattle.reception.specs.Reception.{wrongLength, shortMap}
 use Rattle.reception.specs.declared.Hole.{Hole}
@@ -49,10 +50,10 @@ abbrev pub listedAnswer : Listed → Answer Hole
 listedAnswer (Accepted hole) = accepted hole
 listedAnswer (Refused n) = refused n
 
--- a position of the file, below l, that is held: what a host asks; a spare bit is no position of the file
-abbrev pub heldOf : ℕ → List ℕ → ℕ → Bool
-heldOf l map p = ltb p l && held map p
-
--- how many positions of the file are held
-abbrev pub heldCount : ℕ → List ℕ → ℕ
-heldCount l map = count (held map) 0 l
+-- What a hole is: a run of unheld positions below l that cannot be made longer.
+pub record IsHole (l : ℕ) (map : List ℕ) (hole : Hole) : Type 0 where
+  pub some : 1 ≤ hole .length
+  pub below : hole .start + hole .length ≤ l
+  pub unheld : (p : ℕ) → hole .start ≤ p → p < hole .start + hole .length → held map p ≡ false
+  pub no-longer-before : (p : ℕ) → suc p ≡ hole .start → held map p ≡ true
+  pub no-longer-behind : hole .start + hole .length < l → held map (hole .start + hole .length) ≡ true

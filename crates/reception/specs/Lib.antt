@@ -4,5 +4,7 @@ pub mod Opening
 pub mod Taking
 pub mod Joining
 pub mod Holes
+pub mod Held
+pub mod Listing
 pub mod Sequences
 pub mod Inner

@@ -17,7 +17,8 @@ ghost use mathlib.Core.Path.{_≡_};
 ghost use Rattle.reception.specs.Opening.{Opens};
 ghost use Rattle.reception.specs.Taking.{Takes};
 ghost use Rattle.reception.specs.Joining.{Joins};
-ghost use Rattle.reception.specs.Holes.{listing, listedAnswer, heldOf, heldCount};
+ghost use Rattle.reception.specs.Holes.{listing, listedAnswer};
+ghost use Rattle.reception.specs.Held.{heldOf, heldCount};
 
 // The longest file.
 pub const LONGEST: u32 = 32768;
