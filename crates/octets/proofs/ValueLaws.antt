@@ -1,9 +1,10 @@
 -- What stands at each place of the list that a rule makes: a rule that is tested over a whole list holds at each entry.
 -- Assumes nothing.
-use mathlib.Core.Path.{_≡_, refl, sym, ap, _∙_}
-use mathlib.Core.List.{List}
+use mathlib.Core.Path.{_≡_, refl, sym, ap, ap₂, _∙_}
+use mathlib.Core.List.{List, _∷_}
 use Prim.Native.Nat.{ℕ, zero, suc, _+_, _<_}
 use native.Mathlib.Nat.{add-zero, zero-add, add-suc, suc-add, le-of-suc-le-suc, not-suc-le-zero}
+use native.Mathlib.Omega.{arith}
 use lib.ListN.{length, getD}
 use Rattle.octets.specs.Values.{valuesFrom}
 
@@ -23,3 +24,8 @@ same-values f g n k e h = sym (value-at f (f 0) n k h) ∙ ap (λ (l : List _). 
 pub values-long : {A : Type 0} (f : ℕ → A) (i n : ℕ) → length (valuesFrom f i n) ≡ n
 values-long f i zero = refl
 values-long f i (suc n) = ap suc (values-long f (suc i) n)
+
+-- two rules that agree at each place make the same list
+pub values-same : {A : Type 0} (f g : ℕ → A) (i n : ℕ) → ((k : ℕ) → k < i + n → f k ≡ g k) → valuesFrom f i n ≡ valuesFrom g i n
+values-same f g i zero e = refl
+values-same f g i (suc n) e = ap₂ _∷_ (e i (omega arith)) (values-same f g (suc i) n (λ k h. e k (omega arith)))

@@ -114,11 +114,14 @@ digit a b ha hb e =
       | no x ↦ let y = eqb-false b 1 (sym e ∙ ne-eqb a 1 x) in omega (arith, x, y)
     ]
 
-pub map-ext : (m n : List ℕ) → AllBytes m → AllBytes n → length m ≡ length n → ((p : ℕ) → p < length m * 8 → held m p ≡ held n p) → m ≡ n
-map-ext m n bm bn long e =
-    ext-getD 0 m n long (λ i h. bits-ext 8 (byteAt m i) (byteAt n i) (bm i) (bn i) (λ k l.
+pub same-byte : (m n : List ℕ) (i : ℕ) → AllBytes m → AllBytes n → ((k : ℕ) → k < 8 → held m (i * 8 + k) ≡ held n (i * 8 + k)) → byteAt m i ≡ byteAt n i
+same-byte m n i bm bn e =
+    bits-ext 8 (byteAt m i) (byteAt n i) (bm i) (bn i) (λ k l.
     digit (bit (byteAt m i) k) (bit (byteAt n i) k) (bit-lt (byteAt m i) k) (bit-lt (byteAt n i) k)
-    (sym (held-in m i k l) ∙ e (i * 8 + k) (omega arith) ∙ held-in n i k l)))
+    (sym (held-in m i k l) ∙ e k l ∙ held-in n i k l))
+
+pub map-ext : (m n : List ℕ) → AllBytes m → AllBytes n → length m ≡ length n → ((p : ℕ) → p < length m * 8 → held m p ≡ held n p) → m ≡ n
+map-ext m n bm bn long e = ext-getD 0 m n long (λ i h. same-byte m n i bm bn (λ k l. e (i * 8 + k) (omega arith)))
 
 -- ---- the map that holds exactly what passes a test
 pub map-long : (t : ℕ → Bool) (n : ℕ) → length (mapOf t n) ≡ n

@@ -97,3 +97,11 @@ unfolding firstOf
 both-accept [] ds a b b′ e = (refl, e)
 both-accept (check true m ∷ cs) ds a b b′ e = absurd (not-both b′ m e refl)
 both-accept (check false m ∷ cs) ds a b b′ e = both-accept cs ds a b b′ e
+
+-- a check that holds: what stands behind it, and the value, say nothing more
+pub cut-off : {A : Type 0} {holds : Bool} (cs : List Check) (n : ℕ) (ds es : List Check) (a b : A) → holds ≡ true
+    → firstOf (cs ++ check holds n ∷ ds) a ≡ firstOf (cs ++ check holds n ∷ es) b
+unfolding firstOf
+cut-off [] n ds es a b e = rw e
+cut-off (check true m ∷ cs) n ds es a b e = refl
+cut-off (check false m ∷ cs) n ds es a b e = cut-off cs n ds es a b e

@@ -6,3 +6,6 @@ pub mod SideLaws
 pub mod HoleSteps
 pub mod AddLaws
 pub mod Answers
+pub mod Holding
+pub mod BeyondLaws
+pub mod Demand3

@@ -7,4 +7,5 @@ pub mod Holes
 pub mod Held
 pub mod Listing
 pub mod Sequences
+pub mod Spare
 pub mod Inner
