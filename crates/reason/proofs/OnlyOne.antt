@@ -26,7 +26,10 @@ unfolding outcome-case
 outcome-back Accepted = refl
 outcome-back (Refused n) = refl
 
+pub one-outcome : {v : Answer Unit} (r q : Outcome) → outcome r ≡ v → outcome q ≡ v → r ≡ q
+one-outcome r q d e = only-one-meant outcome outcome-case outcome-back r q d e
+
 -- a writer's answer and the bytes that it leaves are fixed
 pub only-one-written : (lent : List ℕ) (m : Answer (List ℕ)) (r q : Outcome) (left also : List ℕ) → Wrote lent m r left
     → Wrote lent m q also → (r ≡ q) × (left ≡ also)
-only-one-written lent m r q left also d e = (only-one-meant outcome outcome-case outcome-back r q (d .answer) (e .answer), only-one left also (d .bytes) (e .bytes))
+only-one-written lent m r q left also d e = (one-outcome r q (d .answer) (e .answer), only-one left also (d .bytes) (e .bytes))

@@ -18,9 +18,11 @@ use Rattle.reception.specs.Adding.{ofPiece, offered, after}
 use Rattle.reception.specs.Opening.{opened}
 use Rattle.reception.specs.Taking.{taking, taken}
 use Rattle.reception.specs.Joining.{joining, joined}
+use Rattle.reception.specs.Holes.{listing}
 use Rattle.reception.specs.Sequences.{takenAll, isAccepted, coveredIn, fits, covers, covered, AgreesWith, AllAgree, Station, receptionOf, Made, station, together, HoldsOf, itself, beyond}
 use Rattle.reception.proofs.Holding.{same-reception, fits-inside, opened-holds, told, fitting-is-taken, unfitting-is-refused, taken-holds, join-accepted, joined-holds}
-use Rattle.reception.proofs.BeyondLaws.{all-of-it, taken-beyond, joined-beyond}
+use Rattle.reception.proofs.HoleLaws.{none-left-only-if}
+use Rattle.reception.proofs.LentSpace.{all-of-it, taken-beyond, joined-beyond}
 
 nothing-new : (a b : Bool) → (b && not (a || b)) ≡ false
 nothing-new true true = refl
@@ -236,10 +238,13 @@ module _ (number l : ℕ) (file : List ℕ) (ok : wrongLength l ≡ false) where
           (joined-holds number l file ok (λ p. false) (h .0) (opened number l map buffer) s none (h .1)) (h .1) (λ p _. refl)
 
     -- ---- 4. with no hole left, the buffer is the file
-    pub complete : length file ≡ l → ((p : ℕ) → p < l → held (s .map) p ≡ true) → take l (s .buffer) ≡ file
+    complete : length file ≡ l → ((p : ℕ) → p < l → held (s .map) p ≡ true) → take l (s .buffer) ≡ file
     complete size all =
         let h = made-holds s m .1 in
         let long = length-take-le l (s .buffer) (h .buffer-long) in
         ext-getD 0 (take l (s .buffer)) file (long ∙ sym size)
         (λ p g. let below : p < l = omega (arith, long, g) in
         getD-take l (s .buffer) p 0 below ∙ h .bytes p below ∙ ap (λ (b : Bool). cond b (byteAt file p) 0) (sym (h .holds p (omega arith)) ∙ all p below))
+
+    pub none-left-is-the-file : length file ≡ l → listing l (s .map) 0 ≡ refused 15 → take l (s .buffer) ≡ file
+    none-left-is-the-file size none = complete size (none-left-only-if l (s .map) none)

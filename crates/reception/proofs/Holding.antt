@@ -24,8 +24,8 @@ use Rattle.reception.specs.Opening.{cleared, opened}
 use Rattle.reception.specs.Taking.{taking, taken}
 use Rattle.reception.specs.Joining.{joining, joined}
 use Rattle.reception.specs.Sequences.{fits, covers, AgreesWith, HoldsOf, itself}
-use Rattle.reception.proofs.AddLaws.{enough-space}
-use Rattle.reception.proofs.Answers.{takes-9, takes-10, takes, joins}
+use Rattle.reception.proofs.OfferLaws.{enough-space}
+use Rattle.reception.proofs.GivenReasons.{takes-9, takes-10, takes, joins}
 
 -- ---- a reception is determined by what it holds
 module _ (number l : ℕ) (file : List ℕ) where

@@ -4,8 +4,13 @@ pub mod JoinSteps
 pub mod Steps
 pub mod SideLaws
 pub mod HoleSteps
-pub mod AddLaws
-pub mod Answers
+pub mod OfferLaws
+pub mod GivenReasons
 pub mod Holding
-pub mod BeyondLaws
+pub mod LentSpace
+pub mod HoleLaws
 pub mod Demand3
+pub mod SpareBits
+pub mod OnlyOne
+pub mod InOrder
+pub mod Cases

@@ -19,8 +19,8 @@ use Rattle.reception.specs.Inner.{MapRun, BufferRun}
 use Rattle.reception.specs.Joining.{joining}
 use Rattle.reception.specs.declared.Added.the-variants.{Accepted, Refused}
 use Rattle.reception.proofs.MarkLaws.{run-map}
-use Rattle.reception.proofs.AddLaws.{right-length, enough-space, adds-refused, adds-accepted, run-buffer}
-use Rattle.reception.proofs.Answers.{joins-7, joins-12, joins-9, joins-11, joins}
+use Rattle.reception.proofs.OfferLaws.{right-length, enough-space, adds-refused, adds-accepted, run-buffer}
+use Rattle.reception.proofs.GivenReasons.{joins-7, joins-12, joins-9, joins-11, joins}
 use Rattle.reception.proofs.join.Statement.{statement}
 use Rattle.reception.proofs.join.Tie as tie
 

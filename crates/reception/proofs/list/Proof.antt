@@ -14,8 +14,8 @@ use Rattle.positions.proofs.SpanLaws.{first-from, first-by}
 use Rattle.reception.specs.Reception.{wrongLength}
 use Rattle.reception.specs.Holes.{startsHole, holeStart, holeFrom}
 use Rattle.reception.specs.declared.Hole.{Hole}
-use Rattle.reception.proofs.AddLaws.{right-length}
-use Rattle.reception.proofs.Answers.{lists-7, lists-12, lists-15, lists}
+use Rattle.reception.proofs.OfferLaws.{right-length}
+use Rattle.reception.proofs.GivenReasons.{lists-7, lists-12, lists-15, lists}
 use Rattle.reception.proofs.list.Statement.{statement}
 use Rattle.reception.proofs.list.Tie as tie
 

@@ -8,8 +8,8 @@ use lib.ListN.{length}
 use borrow.Author.Needs.{needs}
 use Rattle.positions.specs.Map.{mapSize}
 use Rattle.reception.specs.Reception.{wrongLength, shortSpace}
-use Rattle.reception.proofs.AddLaws.{enough-space}
-use Rattle.reception.proofs.Answers.{opens-7, opens-12, opens, opens-refused, opens-accepted}
+use Rattle.reception.proofs.OfferLaws.{enough-space}
+use Rattle.reception.proofs.GivenReasons.{opens-7, opens-12, opens, opens-refused, opens-accepted}
 use Rattle.reception.proofs.open.Statement.{statement}
 use Rattle.reception.proofs.open.Tie as tie
 

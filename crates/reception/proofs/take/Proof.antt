@@ -15,8 +15,8 @@ use Rattle.reception.specs.Adding.{ofPiece, agrees, Adds}
 use Rattle.reception.specs.Taking.{taking}
 use Rattle.reception.specs.declared.Added.the-variants.{Refused}
 use Rattle.reception.proofs.MarkLaws.{run-map}
-use Rattle.reception.proofs.AddLaws.{right-length, enough-space, adds-refused, adds-accepted, piece-agrees, piece-stored}
-use Rattle.reception.proofs.Answers.{takes-7, takes-12, takes-9, takes-10, takes-11, takes}
+use Rattle.reception.proofs.OfferLaws.{right-length, enough-space, adds-refused, adds-accepted, piece-agrees, piece-stored}
+use Rattle.reception.proofs.GivenReasons.{takes-7, takes-12, takes-9, takes-10, takes-11, takes}
 use Rattle.reception.proofs.take.Statement.{statement}
 use Rattle.reception.proofs.take.Tie as tie
 

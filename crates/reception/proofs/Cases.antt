@@ -1,0 +1,236 @@
+-- The cases of 01 that a reception decides, and both sides of its limits, by computation.
+-- Assumes nothing.
+use mathlib.Core.Path.{_≡_, refl}
+use mathlib.Core.Bool.{true, false}
+use mathlib.Core.List.{List, [], _∷_, _++_}
+use Prim.Native.Nat.{ℕ}
+use lib.ListN.{replicate}
+use Rattle.reason.specs.Answer.{Answer, accepted, refused}
+use Rattle.reason.specs.Order.{firstOf}
+use Rattle.positions.specs.Spans.{every, count, first}
+use Rattle.positions.specs.Map.{bit, held, bitsFrom, mapOf}
+use Rattle.reception.specs.Reception.{Reception, Piece}
+use Rattle.reception.specs.Opening.{opening, opened}
+use Rattle.reception.specs.Taking.{taking, taken}
+use Rattle.reception.specs.Joining.{joining, joined}
+use Rattle.reception.specs.Holes.{listing}
+use Rattle.reception.specs.Held.{heldOf, heldCount}
+use Rattle.reception.specs.Sequences.{takenAll}
+use Rattle.reception.specs.declared.Hole.{Hole}
+
+-- a piece of file 7
+abbrev piece : ℕ → List ℕ → Piece
+piece offset bytes = record { number = 7; offset = offset; bytes = bytes }
+
+-- a reception of file 7, length 20
+abbrev twenty : List ℕ → List ℕ → Reception
+twenty map buffer = record { number = 7; length = 20; map = map; buffer = buffer }
+
+-- positions 0 to 3 and 8 to 9 held: 01's example
+abbrev first-piece : Piece
+first-piece = piece 0 (0x41 ∷ 0x42 ∷ 0x43 ∷ 0x44 ∷ [])
+
+abbrev second-piece : Piece
+second-piece = piece 8 (0x45 ∷ 0x46 ∷ [])
+
+abbrev buffer20 : List ℕ
+buffer20 = 0x41 ∷ 0x42 ∷ 0x43 ∷ 0x44 ∷ 0 ∷ 0 ∷ 0 ∷ 0 ∷ 0x45 ∷ 0x46 ∷ replicate 10 0
+
+abbrev example : Reception
+example = twenty (0x0F ∷ 0x03 ∷ 0x00 ∷ []) buffer20
+
+-- positions 0 to 3 held, and 2 to 9
+abbrev front : Reception
+front = twenty (0x0F ∷ 0x00 ∷ 0x00 ∷ []) (0x41 ∷ 0x42 ∷ 0x43 ∷ 0x44 ∷ replicate 16 0)
+
+abbrev middle : Reception
+middle = twenty (0xFC ∷ 0x03 ∷ 0x00 ∷ []) (0 ∷ 0 ∷ 0x43 ∷ 0x44 ∷ 0x45 ∷ 0x46 ∷ 0x47 ∷ 0x48 ∷ 0x49 ∷ 0x4A ∷ replicate 10 0)
+
+-- the longest file, of which nothing is held
+abbrev longest-file : Reception
+longest-file = record { number = 7; length = 32768; map = replicate 4096 0; buffer = replicate 32768 0 }
+
+-- lent space that is longer than needed, with other bytes in it and the spare bits set
+abbrev lent-map : List ℕ
+lent-map = 0x0F ∷ 0x03 ∷ 0xF0 ∷ 0xA5 ∷ []
+
+abbrev lent-buffer : List ℕ
+lent-buffer = 0x41 ∷ 0x42 ∷ 0x43 ∷ 0x44 ∷ 0x91 ∷ 0x92 ∷ 0x93 ∷ 0x94 ∷ 0x45 ∷ 0x46 ∷ replicate 10 0x95 ++ 0x96 ∷ 0x97 ∷ []
+
+abbrev hole : ℕ → ℕ → Answer Hole
+hole start size = accepted (record { start = start; length = size })
+
+pub record Cases : Type 0 where
+  -- a map's bits
+  pub low-bit-first : held (0x01 ∷ 0x80 ∷ []) 0 ≡ true
+  pub next-bit : held (0x01 ∷ 0x80 ∷ []) 1 ≡ false
+  pub high-bit-last : held (0x01 ∷ 0x80 ∷ []) 15 ≡ true
+  pub next-byte : held (0x01 ∷ 0x80 ∷ []) 8 ≡ false
+  -- opening
+  pub length-0 : opening 0 [] [] ≡ refused 7
+  pub length-1 : opening 1 (0xFF ∷ []) (0xFF ∷ []) ≡ accepted tt
+  pub length-32768 : opening 32768 (replicate 4096 0xFF) (replicate 32768 0xFF) ≡ accepted tt
+  pub length-32769 : opening 32769 (replicate 4097 0xFF) (replicate 32769 0xFF) ≡ refused 7
+  pub length-65556 : opening 65556 (replicate 4096 0) (replicate 32768 0) ≡ refused 7
+  pub nothing-lent : opening 1 [] [] ≡ refused 12
+  pub map-short : opening 9 (0 ∷ []) (replicate 9 0) ≡ refused 12
+  pub map-exact : opening 9 (0 ∷ 0 ∷ []) (replicate 9 0) ≡ accepted tt
+  pub map-of-eight : opening 8 (0 ∷ []) (replicate 8 0) ≡ accepted tt
+  pub buffer-short : opening 9 (0 ∷ 0 ∷ []) (replicate 8 0) ≡ refused 12
+  pub opened-map : opened 7 20 lent-map lent-buffer .map ≡ 0 ∷ 0 ∷ 0 ∷ 0xA5 ∷ []
+  pub opened-buffer : opened 7 20 lent-map lent-buffer .buffer ≡ replicate 20 0 ++ 0x96 ∷ 0x97 ∷ []
+  -- taking pieces in
+  pub first-taken : taking (opened 7 20 (replicate 3 0xFF) (replicate 20 0xFF)) first-piece ≡ accepted 4
+  pub two-pieces-map : takenAll (opened 7 20 (replicate 3 0xFF) (replicate 20 0xFF)) (first-piece ∷ second-piece ∷ []) .map ≡ 0x0F ∷ 0x03 ∷ 0x00 ∷ []
+  pub two-pieces-buffer : takenAll (opened 7 20 (replicate 3 0xFF) (replicate 20 0xFF)) (first-piece ∷ second-piece ∷ []) .buffer ≡ buffer20
+  pub two-pieces-swapped : takenAll (opened 7 20 (replicate 3 0xFF) (replicate 20 0xFF)) (second-piece ∷ first-piece ∷ []) ≡ example
+  pub last-byte : taking longest-file (piece 32767 (0x41 ∷ [])) ≡ accepted 1
+  pub past-the-end : taking longest-file (piece 32768 (0x41 ∷ [])) ≡ refused 10
+  pub offset-65536 : taking longest-file (piece 65536 (0x41 ∷ [])) ≡ refused 10
+  pub repeat-counts-0 : taking example first-piece ≡ accepted 0
+  pub repeat-leaves : taken example first-piece ≡ example
+  pub overlap-counts-new : taking example (piece 2 (0x43 ∷ 0x44 ∷ 0x51 ∷ 0x52 ∷ 0x53 ∷ [])) ≡ accepted 3
+  pub overlap-map : taken example (piece 2 (0x43 ∷ 0x44 ∷ 0x51 ∷ 0x52 ∷ 0x53 ∷ [])) .map ≡ 0x7F ∷ 0x03 ∷ 0x00 ∷ []
+  pub differs : taking example (piece 3 (0x45 ∷ [])) ≡ refused 11
+  pub last-byte-differs : taking example (piece 6 (0x51 ∷ 0x52 ∷ 0x45 ∷ 0x47 ∷ [])) ≡ refused 11
+  pub refused-leaves : taken example (piece 6 (0x51 ∷ 0x52 ∷ 0x45 ∷ 0x47 ∷ [])) ≡ example
+  pub other-number : taking example (record { number = 8; offset = 0; bytes = 0x41 ∷ [] }) ≡ refused 9
+  pub to-the-end : taking example (piece 19 (0x51 ∷ [])) ≡ accepted 1
+  pub one-too-far : taking example (piece 19 (0x51 ∷ 0x52 ∷ [])) ≡ refused 10
+  pub empty-piece : taking example (piece 20 []) ≡ accepted 0
+  pub empty-piece-too-far : taking example (piece 21 []) ≡ refused 10
+  pub twelve-before-nine : taking (twenty (0x0F ∷ 0x03 ∷ []) buffer20) (record { number = 8; offset = 0; bytes = 0x41 ∷ [] }) ≡ refused 12
+  pub seven-before-twelve : taking (record { number = 7; length = 0; map = []; buffer = [] }) first-piece ≡ refused 7
+  pub nine-before-ten : taking example (record { number = 8; offset = 20; bytes = 0x41 ∷ [] }) ≡ refused 9
+  pub ten-before-eleven : taking example (piece 9 (replicate 12 0x99)) ≡ refused 10
+  pub longer-space : taking (twenty lent-map lent-buffer) (piece 3 (0x44 ∷ 0x51 ∷ [])) ≡ accepted 1
+  pub longer-space-map : taken (twenty lent-map lent-buffer) (piece 3 (0x44 ∷ 0x51 ∷ [])) .map ≡ 0x1F ∷ 0x03 ∷ 0xF0 ∷ 0xA5 ∷ []
+  pub longer-space-buffer : taken (twenty lent-map lent-buffer) (piece 17 (0x51 ∷ 0x52 ∷ 0x53 ∷ [])) .buffer
+      ≡ 0x41 ∷ 0x42 ∷ 0x43 ∷ 0x44 ∷ 0x91 ∷ 0x92 ∷ 0x93 ∷ 0x94 ∷ 0x45 ∷ 0x46 ∷ replicate 7 0x95 ++ 0x51 ∷ 0x52 ∷ 0x53 ∷ 0x96 ∷ 0x97 ∷ []
+  -- joining
+  pub join-counts-6 : joining front middle ≡ accepted 6
+  pub join-map : joined front middle .map ≡ 0xFF ∷ 0x03 ∷ 0x00 ∷ []
+  pub join-buffer : joined front middle .buffer ≡ 0x41 ∷ 0x42 ∷ 0x43 ∷ 0x44 ∷ 0x45 ∷ 0x46 ∷ 0x47 ∷ 0x48 ∷ 0x49 ∷ 0x4A ∷ replicate 10 0
+  pub join-again : joining (joined front middle) middle ≡ accepted 0
+  pub join-other-way : joining middle front ≡ accepted 2
+  pub join-swapped : joined middle front ≡ joined front middle
+  pub join-differs : joining example middle ≡ refused 11
+  pub join-refused-leaves : joined example middle ≡ example
+  pub join-first-length : joining (record { number = 7; length = 0; map = []; buffer = [] }) front ≡ refused 7
+  pub join-second-length : joining front (record { number = 7; length = 0; map = []; buffer = [] }) ≡ refused 7
+  pub join-first-short : joining (twenty (0 ∷ 0 ∷ []) buffer20) front ≡ refused 12
+  pub join-second-short : joining front (twenty (0 ∷ 0 ∷ 0 ∷ []) (replicate 19 0)) ≡ refused 12
+  pub join-other-number : joining front (record { number = 8; length = 20; map = 0x01 ∷ 0 ∷ 0 ∷ []; buffer = replicate 20 0x99 }) ≡ refused 9
+  pub join-other-length : joining front (record { number = 7; length = 19; map = 0x01 ∷ 0 ∷ 0 ∷ []; buffer = replicate 19 0x99 }) ≡ refused 9
+  pub join-keeps-spare-bits : joined (twenty lent-map lent-buffer) (twenty (0x00 ∷ 0x00 ∷ 0x0F ∷ []) (replicate 20 0x99)) .map ≡ 0x0F ∷ 0x03 ∷ 0xFF ∷ 0xA5 ∷ []
+  pub join-copies-no-spare-bits : joined front (twenty (0x00 ∷ 0x00 ∷ 0xF8 ∷ []) (replicate 20 0x99)) .map ≡ 0x0F ∷ 0x00 ∷ 0x08 ∷ []
+  pub join-keeps-unheld : joined (twenty lent-map lent-buffer) (twenty (0x10 ∷ 0x00 ∷ 0x00 ∷ []) (replicate 20 0x99)) .buffer
+      ≡ 0x41 ∷ 0x42 ∷ 0x43 ∷ 0x44 ∷ 0x99 ∷ 0x92 ∷ 0x93 ∷ 0x94 ∷ 0x45 ∷ 0x46 ∷ replicate 10 0x95 ++ 0x96 ∷ 0x97 ∷ []
+  -- listing
+  pub first-hole : listing 20 (0x0F ∷ 0x03 ∷ 0x00 ∷ []) 0 ≡ hole 4 4
+  pub hole-at-place : listing 20 (0x0F ∷ 0x03 ∷ 0x00 ∷ []) 4 ≡ hole 4 4
+  pub place-in-hole : listing 20 (0x0F ∷ 0x03 ∷ 0x00 ∷ []) 5 ≡ hole 10 10
+  pub second-hole : listing 20 (0x0F ∷ 0x03 ∷ 0x00 ∷ []) 8 ≡ hole 10 10
+  pub no-more : listing 20 (0x0F ∷ 0x03 ∷ 0x00 ∷ []) 11 ≡ refused 15
+  pub place-at-end : listing 20 (0x0F ∷ 0x03 ∷ 0x00 ∷ []) 20 ≡ refused 15
+  pub place-beyond : listing 20 (0x0F ∷ 0x03 ∷ 0x00 ∷ []) 4294967295 ≡ refused 15
+  pub over-a-byte : listing 20 (0x0F ∷ 0xF0 ∷ 0x0F ∷ []) 0 ≡ hole 4 8
+  pub nothing-held : listing 20 (0x00 ∷ 0x00 ∷ 0x00 ∷ []) 0 ≡ hole 0 20
+  pub nothing-held-spare-set : listing 20 (0x00 ∷ 0x00 ∷ 0xF0 ∷ []) 0 ≡ hole 0 20
+  pub all-held : listing 20 (0xFF ∷ 0xFF ∷ 0x0F ∷ []) 0 ≡ refused 15
+  pub last-position : listing 20 (0xFF ∷ 0xFF ∷ 0xF7 ∷ []) 0 ≡ hole 19 1
+  pub list-length : listing 0 [] 0 ≡ refused 7
+  pub list-length-32769 : listing 32769 (replicate 4097 0) 0 ≡ refused 7
+  pub list-short : listing 20 (0x0F ∷ 0x03 ∷ []) 20 ≡ refused 12
+  -- what a host asks
+  pub held-3 : heldOf 20 lent-map 3 ≡ true
+  pub not-held-4 : heldOf 20 lent-map 4 ≡ false
+  pub spare-is-not-held : heldOf 20 lent-map 20 ≡ false
+  pub beyond-the-map : heldOf 4294967295 lent-map 32 ≡ false
+  pub held-in-all : heldCount 20 lent-map ≡ 6
+  pub held-in-longer-map : heldCount 24 lent-map ≡ 10
+
+pub cases : Cases
+unfolding firstOf every count first bit held bitsFrom mapOf opening taking joining listing
+cases = record {
+  low-bit-first = refl;
+  next-bit = refl;
+  high-bit-last = refl;
+  next-byte = refl;
+  length-0 = refl;
+  length-1 = refl;
+  length-32768 = refl;
+  length-32769 = refl;
+  length-65556 = refl;
+  nothing-lent = refl;
+  map-short = refl;
+  map-exact = refl;
+  map-of-eight = refl;
+  buffer-short = refl;
+  opened-map = refl;
+  opened-buffer = refl;
+  first-taken = refl;
+  two-pieces-map = refl;
+  two-pieces-buffer = refl;
+  two-pieces-swapped = refl;
+  last-byte = refl;
+  past-the-end = refl;
+  offset-65536 = refl;
+  repeat-counts-0 = refl;
+  repeat-leaves = refl;
+  overlap-counts-new = refl;
+  overlap-map = refl;
+  differs = refl;
+  last-byte-differs = refl;
+  refused-leaves = refl;
+  other-number = refl;
+  to-the-end = refl;
+  one-too-far = refl;
+  empty-piece = refl;
+  empty-piece-too-far = refl;
+  twelve-before-nine = refl;
+  seven-before-twelve = refl;
+  nine-before-ten = refl;
+  ten-before-eleven = refl;
+  longer-space = refl;
+  longer-space-map = refl;
+  longer-space-buffer = refl;
+  join-counts-6 = refl;
+  join-map = refl;
+  join-buffer = refl;
+  join-again = refl;
+  join-other-way = refl;
+  join-swapped = refl;
+  join-differs = refl;
+  join-refused-leaves = refl;
+  join-first-length = refl;
+  join-second-length = refl;
+  join-first-short = refl;
+  join-second-short = refl;
+  join-other-number = refl;
+  join-other-length = refl;
+  join-keeps-spare-bits = refl;
+  join-copies-no-spare-bits = refl;
+  join-keeps-unheld = refl;
+  first-hole = refl;
+  hole-at-place = refl;
+  place-in-hole = refl;
+  second-hole = refl;
+  no-more = refl;
+  place-at-end = refl;
+  place-beyond = refl;
+  over-a-byte = refl;
+  nothing-held = refl;
+  nothing-held-spare-set = refl;
+  all-held = refl;
+  last-position = refl;
+  list-length = refl;
+  list-length-32769 = refl;
+  list-short = refl;
+  held-3 = refl;
+  not-held-4 = refl;
+  spare-is-not-held = refl;
+  beyond-the-map = refl;
+  held-in-all = refl;
+  held-in-longer-map = refl;
+}

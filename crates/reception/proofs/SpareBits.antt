@@ -1,0 +1,202 @@
+-- Spare bits, set or clear, change no answer and no other byte, and taking and joining leave them.
+-- Assumes nothing.
+use mathlib.Core.Path.{_≡_, refl, sym, ap, ap₂, _∙_}
+use mathlib.Core.Bool.{Bool, true, false, cond, not, _&&_, _||_, or-false}
+use mathlib.Core.Logic.{⊎-elim}
+use mathlib.Core.List.{List, [], _∷_}
+use Prim.Native.Nat.{ℕ, zero, suc, _+_, _-_, _*_, _≤_, _<_}
+use native.Mathlib.Omega.{arith}
+use lib.Dec.{eqb, ltb}
+use lib.ListN.{length}
+use borrow.Author.Tests.{lt-ltb, eqb-true, ltb-true}
+use Rattle.reason.specs.Answer.{Answer, accepted, refused}
+use Rattle.reason.specs.Order.{Check, check, firstOf}
+use Rattle.reason.proofs.Bools.{and-right, le-or-lt}
+use Rattle.reason.proofs.OrderLaws.{cut-off}
+use Rattle.octets.specs.Numbers.{byteAt}
+use Rattle.octets.proofs.ValueLaws.{values-same}
+use Rattle.positions.specs.Spans.{within, first}
+use Rattle.positions.specs.Map.{held, mapSize}
+use Rattle.positions.proofs.SpanLaws.{before-span, behind-span, by-span, every-same, count-same, first-same}
+use Rattle.positions.proofs.MapLaws.{map-long, held-map, held-past}
+use Rattle.reception.specs.Reception.{Reception, Piece, wrongLength, shortSpace}
+use Rattle.reception.specs.Adding.{Offer, ofPiece, ofReception, offered, agreesAt, agrees, isNew, newIn, mapWith, bufferWith, after}
+use Rattle.reception.specs.Taking.{taking, taken}
+use Rattle.reception.specs.Joining.{joining, joined}
+use Rattle.reception.specs.Holes.{heldBefore, startsHole, holeStart, holeEnd, holeFrom, listing}
+use Rattle.reception.specs.Held.{heldOf, heldCount}
+use Rattle.reception.specs.Spare.{SameBelow}
+use Rattle.reception.proofs.LentSpace.{taken-ends, joined-lengths}
+
+-- the reception with another map
+abbrev pub withMap : Reception → List ℕ → Reception
+withMap s map = record { number = s .number; length = s .length; map = map; buffer = s .buffer }
+
+-- ---- the same offer, or one that has the same below l, to maps that are the same below l
+module _ (s : Reception) (map : List ℕ) (below : SameBelow (s .length) (s .map) map) (start size : ℕ) (has has′ : ℕ → Bool) (byte : ℕ → ℕ)
+    (inside : start + size ≤ s .length) (alike : (p : ℕ) → p < s .length → has p ≡ has′ p) where
+  abbrev o : Offer
+  o = record { start = start; size = size; has = has; byte = byte }
+
+  abbrev o′ : Offer
+  o′ = record { start = start; size = size; has = has′; byte = byte }
+
+  same-agrees : agrees s o ≡ agrees (withMap s map) o′
+  same-agrees =
+      every-same (agreesAt s o) (agreesAt (withMap s map) o′) start size
+      (λ p l g. ap₂ (λ (a h : Bool). not (a && h) || eqb (byteAt (s .buffer) p) (byte p)) (below .same p (omega arith)) (alike p (omega arith)))
+
+  new-alike : (p : ℕ) → p < s .length → isNew s o p ≡ isNew (withMap s map) o′ p
+  new-alike p g = ap₂ (λ (h a : Bool). h && not a) (alike p g) (below .same p g)
+
+  same-new : newIn s o ≡ newIn (withMap s map) o′
+  same-new = count-same (isNew s o) (isNew (withMap s map) o′) start size (λ p l g. new-alike p (omega arith))
+
+  same-buffer : bufferWith s o ≡ bufferWith (withMap s map) o′
+  same-buffer =
+      values-same (λ p. cond (within start size p && isNew s o p) (byte p) (byteAt (s .buffer) p)) (λ p. cond (within start size p && isNew (withMap s map) o′ p) (byte p) (byteAt (s .buffer) p)) 0 (length (s .buffer))
+      (λ p _. by-span start size p
+      (λ l g. ap (λ (b : Bool). cond (within start size p && b) (byte p) (byteAt (s .buffer) p)) (new-alike p (omega arith)))
+      (λ g. rw (before-span start size p g))
+      (λ g. rw (behind-span start size p g)))
+
+  same-map : SameBelow (s .length) (mapWith s o) (mapWith (withMap s map) o′)
+  same-map = record {
+    long = map-long (λ p. held map p || offered o′ p) (length map) ∙ below .long ∙ sym (map-long (λ p. held (s .map) p || offered o p) (length (s .map)));
+    same = λ p g. ⊎-elim
+        (λ out. held-past (mapWith s o) p (let e = map-long (λ q. held (s .map) q || offered o q) (length (s .map)) in omega (arith, e, out))
+        ∙ sym (held-past (mapWith (withMap s map) o′) p (let e = map-long (λ q. held map q || offered o′ q) (length map) in let f = below .long in omega (arith, e, f, out))))
+        (λ in-map. held-map (λ q. held (s .map) q || offered o q) (length (s .map)) p in-map
+        ∙ ap₂ (λ (a h : Bool). a || within start size p && h) (below .same p g) (alike p g)
+        ∙ sym (held-map (λ q. held map q || offered o′ q) (length map) p (let f = below .long in omega (arith, f, in-map))))
+        (le-or-lt (length (s .map) * 8) p);
+  }
+
+-- the first two tests do not look at bits
+short-same : (l : ℕ) (map map′ buffer : List ℕ) → length map′ ≡ length map → shortSpace l map buffer ≡ shortSpace l map′ buffer
+short-same l map map′ buffer e = ap (λ (n : ℕ). ltb n (mapSize l) || ltb (length buffer) l) (sym e)
+
+-- ---- taking a piece in
+module _ (s : Reception) (map : List ℕ) (below : SameBelow (s .length) (s .map) map) (x : Piece) where
+  fitting : x .offset + length (x .bytes) ≤ s .length → (agrees s (ofPiece x) ≡ agrees (withMap s map) (ofPiece x)) × (newIn s (ofPiece x) ≡ newIn (withMap s map) (ofPiece x))
+  fitting h = (
+    same-agrees s map below (x .offset) (length (x .bytes)) (λ p. true) (λ p. true) (λ p. byteAt (x .bytes) (p - x .offset)) h (λ p _. refl),
+    same-new s map below (x .offset) (length (x .bytes)) (λ p. true) (λ p. true) (λ p. byteAt (x .bytes) (p - x .offset)) h (λ p _. refl),
+  )
+
+  -- the answer is the same
+  pub taking-same : taking s x ≡ taking (withMap s map) x
+  unfolding taking
+  taking-same =
+      let seven = check (wrongLength (s .length)) 7 in
+      let nine = check (not (eqb (s .number) (x .number))) 9 in
+      let ten = check (ltb (s .length) (x .offset + length (x .bytes))) 10 in
+      ap (λ (b : Bool). firstOf (seven ∷ check b 12 ∷ nine ∷ ten ∷ check (not (agrees s (ofPiece x))) 11 ∷ []) (newIn s (ofPiece x))) (short-same (s .length) (s .map) map (s .buffer) (below .long))
+      ∙ ⊎-elim
+      (λ h. ap₂ (λ (b : Bool) (n : ℕ). firstOf (seven ∷ check (shortSpace (s .length) map (s .buffer)) 12 ∷ nine ∷ ten ∷ check (not b) 11 ∷ []) n) (fitting h .0) (fitting h .1))
+      (λ h. cut-off (seven ∷ check (shortSpace (s .length) map (s .buffer)) 12 ∷ nine ∷ []) 10 (check (not (agrees s (ofPiece x))) 11 ∷ []) (check (not (agrees (withMap s map) (ofPiece x))) 11 ∷ []) (newIn s (ofPiece x)) (newIn (withMap s map) (ofPiece x))
+      (lt-ltb (s .length) (x .offset + length (x .bytes)) h))
+      (le-or-lt (x .offset + length (x .bytes)) (s .length))
+
+  taken-by : (a : Answer ℕ) → taking s x ≡ a
+      → (after s (ofPiece x) a .buffer ≡ after (withMap s map) (ofPiece x) a .buffer) × SameBelow (s .length) (after s (ofPiece x) a .map) (after (withMap s map) (ofPiece x) a .map)
+  taken-by (refused n) e = (refl, below)
+  taken-by (accepted n) e =
+      let h = taken-ends s x n e in (
+        same-buffer s map below (x .offset) (length (x .bytes)) (λ p. true) (λ p. true) (λ p. byteAt (x .bytes) (p - x .offset)) h (λ p _. refl),
+        same-map s map below (x .offset) (length (x .bytes)) (λ p. true) (λ p. true) (λ p. byteAt (x .bytes) (p - x .offset)) h (λ p _. refl),
+      )
+
+  -- so is the buffer afterwards, and the map below l
+  pub taken-same : (taken s x .buffer ≡ taken (withMap s map) x .buffer) × SameBelow (s .length) (taken s x .map) (taken (withMap s map) x .map)
+  taken-same = rw (sym taking-same) (taken-by (taking s x) refl)
+
+-- ---- joining, with spare bits in either map
+module _ (s t : Reception) (map map′ : List ℕ) (below : SameBelow (s .length) (s .map) map) (below′ : SameBelow (t .length) (t .map) map′) where
+  together : s .length ≡ t .length
+      → (agrees s (ofReception t) ≡ agrees (withMap s map) (ofReception (withMap t map′))) × (newIn s (ofReception t) ≡ newIn (withMap s map) (ofReception (withMap t map′)))
+  together e = (
+    same-agrees s map below 0 (t .length) (held (t .map)) (held map′) (byteAt (t .buffer)) (omega arith) (λ p g. below′ .same p (omega arith)),
+    same-new s map below 0 (t .length) (held (t .map)) (held map′) (byteAt (t .buffer)) (omega arith) (λ p g. below′ .same p (omega arith)),
+  )
+
+  by-lengths : (b : Bool) → (eqb (s .number) (t .number) && eqb (s .length) (t .length)) ≡ b
+      → (c d : Check) → firstOf (c ∷ d ∷ check (not (eqb (s .number) (t .number) && eqb (s .length) (t .length))) 9 ∷ check (not (agrees s (ofReception t))) 11 ∷ []) (newIn s (ofReception t))
+      ≡ firstOf (c ∷ d ∷ check (not (eqb (s .number) (t .number) && eqb (s .length) (t .length))) 9 ∷ check (not (agrees (withMap s map) (ofReception (withMap t map′)))) 11 ∷ []) (newIn (withMap s map) (ofReception (withMap t map′)))
+  by-lengths true e c d =
+      let w = together (eqb-true (s .length) (t .length) (and-right (eqb (s .number) (t .number)) (eqb (s .length) (t .length)) e)) in
+      ap₂ (λ (b : Bool) (n : ℕ). firstOf (c ∷ d ∷ check (not (eqb (s .number) (t .number) && eqb (s .length) (t .length))) 9 ∷ check (not b) 11 ∷ []) n) (w .0) (w .1)
+  by-lengths false e c d =
+      cut-off (c ∷ d ∷ []) 9 (check (not (agrees s (ofReception t))) 11 ∷ []) (check (not (agrees (withMap s map) (ofReception (withMap t map′)))) 11 ∷ []) (newIn s (ofReception t)) (newIn (withMap s map) (ofReception (withMap t map′))) (ap not e)
+
+  -- the answer is the same
+  pub joining-same : joining s t ≡ joining (withMap s map) (withMap t map′)
+  unfolding joining
+  joining-same =
+      let seven = check (wrongLength (s .length) || wrongLength (t .length)) 7 in
+      ap₂ (λ (a b : Bool). firstOf (seven ∷ check (a || b) 12 ∷ check (not (eqb (s .number) (t .number) && eqb (s .length) (t .length))) 9 ∷ check (not (agrees s (ofReception t))) 11 ∷ []) (newIn s (ofReception t)))
+      (short-same (s .length) (s .map) map (s .buffer) (below .long)) (short-same (t .length) (t .map) map′ (t .buffer) (below′ .long))
+      ∙ by-lengths (eqb (s .number) (t .number) && eqb (s .length) (t .length)) refl seven (check (shortSpace (s .length) map (s .buffer) || shortSpace (t .length) map′ (t .buffer)) 12)
+
+  joined-by : (a : Answer ℕ) → joining s t ≡ a
+      → (after s (ofReception t) a .buffer ≡ after (withMap s map) (ofReception (withMap t map′)) a .buffer) × SameBelow (s .length) (after s (ofReception t) a .map) (after (withMap s map) (ofReception (withMap t map′)) a .map)
+  joined-by (refused n) e = (refl, below)
+  joined-by (accepted n) e =
+      let k = joined-lengths s t n e in (
+        same-buffer s map below 0 (t .length) (held (t .map)) (held map′) (byteAt (t .buffer)) (omega (arith, k)) (λ p g. below′ .same p (omega (arith, k, g))),
+        same-map s map below 0 (t .length) (held (t .map)) (held map′) (byteAt (t .buffer)) (omega (arith, k)) (λ p g. below′ .same p (omega (arith, k, g))),
+      )
+
+  -- so is the buffer afterwards, and the map below l
+  pub joined-same : (joined s t .buffer ≡ joined (withMap s map) (withMap t map′) .buffer) × SameBelow (s .length) (joined s t .map) (joined (withMap s map) (withMap t map′) .map)
+  joined-same = rw (sym joining-same) (joined-by (joining s t) refl)
+
+-- ---- taking and joining leave them
+module _ (s : Reception) (p : ℕ) (spare : s .length ≤ p) (h : p < length (s .map) * 8) where
+  left : (o : Offer) → offered o p ≡ false → held (mapWith s o) p ≡ held (s .map) p
+  left o e = held-map (λ q. held (s .map) q || offered o q) (length (s .map)) p h ∙ ap (λ (b : Bool). held (s .map) p || b) e ∙ or-false (held (s .map) p)
+
+  take-leaves : (x : Piece) (a : Answer ℕ) → taking s x ≡ a → held (after s (ofPiece x) a .map) p ≡ held (s .map) p
+  take-leaves x (refused n) e = refl
+  take-leaves x (accepted n) e = let k = taken-ends s x n e in left (ofPiece x) (ap (λ (w : Bool). w && true) (behind-span (x .offset) (length (x .bytes)) p (omega (arith, k, spare))))
+
+  pub taking-leaves : (x : Piece) → held (taken s x .map) p ≡ held (s .map) p
+  taking-leaves x = take-leaves x (taking s x) refl
+
+  join-leaves : (t : Reception) (a : Answer ℕ) → joining s t ≡ a → held (after s (ofReception t) a .map) p ≡ held (s .map) p
+  join-leaves t (refused n) e = refl
+  join-leaves t (accepted n) e = let k = joined-lengths s t n e in left (ofReception t) (ap (λ (w : Bool). w && held (t .map) p) (behind-span 0 (t .length) p (omega (arith, k, spare))))
+
+  pub joining-leaves : (t : Reception) → held (joined s t .map) p ≡ held (s .map) p
+  joining-leaves t = join-leaves t (joining s t) refl
+
+-- ---- listing, and what a host asks
+module _ (l : ℕ) (map map′ : List ℕ) (below : SameBelow l map map′) where
+  before-same : (p : ℕ) → p < l → heldBefore map p ≡ heldBefore map′ p
+  before-same zero g = refl
+  before-same (suc p) g = below .same p (omega arith)
+
+  start-same : (place : ℕ) → holeStart l map place ≡ holeStart l map′ place
+  start-same place =
+      first-same (startsHole map) (startsHole map′) place (l - place)
+      (λ p low g. ap₂ (λ (a b : Bool). not a && b) (below .same p (omega arith)) (before-same p (omega arith)))
+
+  end-same : (start : ℕ) → holeEnd l map start ≡ holeEnd l map′ start
+  end-same start = first-same (held map) (held map′) start (l - start) (λ p low g. below .same p (omega arith))
+
+  hole-same : (place : ℕ) → holeFrom l map place ≡ holeFrom l map′ place
+  hole-same place = rw (start-same place, end-same (holeStart l map′ place))
+
+  pub listing-same : (place : ℕ) → listing l map place ≡ listing l map′ place
+  unfolding listing
+  listing-same place = let e = below .long in rw (sym e, hole-same place, start-same place)
+
+  pub held-same : (p : ℕ) → heldOf l map p ≡ heldOf l map′ p
+  held-same p = by (ltb p l) refl
+    where
+      by : (b : Bool) → ltb p l ≡ b → (b && held map p) ≡ (b && held map′ p)
+      by true e = below .same p (ltb-true p l e)
+      by false e = refl
+
+  pub count-of-held-same : heldCount l map ≡ heldCount l map′
+  count-of-held-same = count-same (held map) (held map′) 0 l (λ p _ g. below .same p (omega arith))
