@@ -90,12 +90,12 @@ pub fn take(
     if l - piece.len() < at {
         return Added::Refused(10);
     }
-    if !pieces::agree(map, buffer, at, piece) {
-        return Added::Refused(11);
+    let agrees = pieces::agree(map, buffer, at, piece);
+    let new = pieces::write(map, buffer, at, piece, agrees);
+    if agrees {
+        return Added::Accepted(new);
     }
-    let new = pieces::hold(map, at, piece.len());
-    octets::put(buffer, at, piece);
-    Added::Accepted(new)
+    Added::Refused(11)
 }
 
 // Joins a second reception into a first, and answers how many positions only the second held; refuses 7

@@ -5,7 +5,7 @@ ghost use mathlib.Core.Bool.{true};
 ghost use Prim.Native.Nat.{_+_, _*_, _/_, _≤_, _<_};
 ghost use lib.ListN.{length};
 ghost use Rattle.positions.specs.Spans.{every};
-ghost use Rattle.reception.specs.Inner.{pieceAgrees, spanAt, emptyAhead, MapRun};
+ghost use Rattle.reception.specs.Inner.{pieceAgrees, spanAt, emptyAhead, MapRun, AllOrNothing};
 
 // How many positions from p on are looked at in one step: 8 where an empty byte starts at p, else 1.
 fn ahead(map: &[u8], p: usize) -> usize
@@ -95,7 +95,7 @@ fn hold_next(map: &mut [u8], p: usize, end: usize) -> u32
 }
 
 // The n positions from a position on become held; how many were not.
-pub(crate) fn hold(map: &mut [u8], at: usize, n: usize) -> u32
+fn hold(map: &mut [u8], at: usize, n: usize) -> u32
     requires { ⌜ (at + n ≤ 32768) × (at + n ≤ length (now map) * 8) ⌝ }
     ensures { λ r. ⌜ MapRun (now (map .entry)) (λ q. true) at n (now (map .exit)) r ⌝ }
 {
@@ -107,4 +107,17 @@ pub(crate) fn hold(map: &mut [u8], at: usize, n: usize) -> u32
         p += span(p, end);
     }
     new
+}
+
+// All or nothing: where the piece agrees, its positions become held and its bytes are written, and the
+// answer is how many were not held; where it does not, nothing changes.
+pub(crate) fn write(map: &mut [u8], buffer: &mut [u8], at: usize, piece: &[u8], agrees: bool) -> u32
+    requires { ⌜ (at + length (now piece) ≤ 32768) × (at + length (now piece) ≤ length (now map) * 8) × (at + length (now piece) ≤ length (now buffer)) ⌝ }
+    ensures { λ r. ⌜ AllOrNothing (now (map .entry)) (now (buffer .entry)) at (now (piece .entry)) agrees (now (map .exit)) (now (buffer .exit)) r ⌝ }
+{
+    if !agrees {
+        return 0;
+    }
+    octets::put(buffer, at, piece);
+    hold(map, at, piece.len())
 }

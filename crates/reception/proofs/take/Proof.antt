@@ -1,17 +1,18 @@
 -- `reception::take` meets its contract: the tests in their order, then the positions are marked and the bytes written.
 -- Assumes nothing.
 use mathlib.Core.Path.{_≡_, refl, sym, ap, _∙_}
-use mathlib.Core.Bool.{true, false}
+use mathlib.Core.Bool.{Bool, true, false}
+use mathlib.Core.List.{List}
 use Prim.Native.Nat.{ℕ, _+_, _≤_}
 use native.Mathlib.Omega.{arith}
 use lib.ListN.{length}
-use borrow.Author.Tests.{not-true, not-false}
 use borrow.Author.Needs.{needs}
-use Rattle.octets.proofs.RunLaws.{put-fits}
+use Rattle.octets.specs.Runs.{putIn}
 use Rattle.positions.specs.Map.{mapSize}
 use Rattle.reception.specs.Reception.{Reception, Piece, wrongLength, shortSpace}
 use Rattle.reason.specs.Answer.{accepted, refused}
 use Rattle.reception.specs.Adding.{ofPiece, agrees, Adds}
+use Rattle.reception.specs.Inner.{MapRun, AllOrNothing}
 use Rattle.reception.specs.Taking.{taking}
 use Rattle.reception.specs.declared.Added.the-variants.{Refused}
 use Rattle.reception.proofs.MarkLaws.{run-map}
@@ -19,6 +20,14 @@ use Rattle.reception.proofs.OfferLaws.{right-length, enough-space, adds
 use Rattle.reception.proofs.GivenReasons.{takes-7, takes-12, takes-9, takes-10, takes-11, takes}
 use Rattle.reception.proofs.take.Statement.{statement}
 use Rattle.reception.proofs.take.Tie as tie
+
+-- what the writer did, where the piece agrees and where it does not
+module _ (m b : List ℕ) (at : ℕ) (d : List ℕ) (agrees : Bool) (m′ b′ : List ℕ) (r : ℕ) (w : AllOrNothing m b at d agrees m′ b′ r) where
+  wrote : agrees ≡ true → MapRun m (λ q. true) at (length d) m′ r × (b′ ≡ putIn b at d)
+  wrote e = rw e at w
+
+  left : agrees ≡ false → (m′ ≡ m) × (b′ ≡ b)
+  left e = rw e at w
 
 wrong-length-requires : tie.Need-wrong-length-requires
 wrong-length-requires c κs = search needs
@@ -93,11 +102,20 @@ returns-5 c = let e = c .before .before .before in let d = D e in refuses (S d) 
 enough : (c : tie.Else2) → (S (D c) .args .length ≤ 32768) × (mapSize (S (D c) .args .length) ≤ length (S (D c) .args .map .now)) × (S (D c) .args .length ≤ length (S (D c) .args .buffer .now))
 enough c = let w = enough-space (S (D c) .args .length) (S (D c) .args .map .now) (S (D c) .args .buffer .now) (room c) in (right-length (S (D c) .args .length) (right (D c)) .1, w .0, w .1)
 
-fits : (c : tie.Else5) → x (S (D (c .before .before .before))) .offset + length (x (S (D (c .before .before .before))) .bytes) ≤ s (S (D (c .before .before .before))) .length
+abbrev T : tie.Else5 → tie.Start
+T c = S (D (c .before .before .before))
+
+fits : (c : tie.Else5) → x (T c) .offset + length (x (T c) .bytes) ≤ s (T c) .length
 fits c = omega arith
 
 agree-requires : tie.Need-agree-requires
 agree-requires c κs = let w = enough (c .before .before .before .before .before) in let f = fits (c .before .before) in (omega (arith, w, f), omega (arith, w, f), omega (arith, w, f))
+
+agreed : (c : tie.After-agree) → agrees (s (T (c .before .before .before))) (ofPiece (x (T (c .before .before .before)))) ≡ c .agree .result
+agreed c = sym (piece-agrees (s (T (c .before .before .before))) (x (T (c .before .before .before)))) ∙ sym (c .agree .ensures)
+
+write-requires : tie.Need-write-requires
+write-requires c κs = let w = enough (c .before .before .before .before .before .before .before .before) in let f = fits (c .before .before .before .before .before) in (omega (arith, w, f), omega (arith, w, f), omega (arith, w, f))
 
 same-length-9 : tie.Need-same-length-9
 same-length-9 c = search needs
@@ -106,13 +124,7 @@ same-length-10 : tie.Need-same-length-10
 same-length-10 c = search needs
 
 returns-6 : tie.Need-returns-6
-returns-6 c = let e = c .before .before .before .before .before .before .before in let d = D e in refuses (S d) 11 (takes-11 (s (S d)) (x (S d)) (right d) (room e) (c .before .before .before .before .before .before .if3 .left) (fits (c .before .before .before .before)) (sym (piece-agrees (s (S d)) (x (S d))) ∙ sym (c .before .agree .ensures) ∙ not-true (c .before .agree .result) (c .if6 .taken)))
-
-hold-requires : tie.Need-hold-requires
-hold-requires c κs = let w = enough (c .before .before .before .before .before .before .before .before) in let f = fits (c .before .before .before .before .before) in (omega (arith, w, f), omega (arith, w, f))
-
-put-requires : tie.Need-put-requires
-put-requires c κs = search needs
+returns-6 c = let f = c .before .before .before .before .before .before .before .before .before .before .before in let k = T f in let w = enough (f .before .before .before) in let e = fits f in let agree = agreed (c .before .before .before .before .before .before .before .before) ∙ c .if6 .taken in let done = wrote (s k .map) (s k .buffer) (x k .offset) (x k .bytes) (c .before .before .before .before .before .before .before .before .agree .result) _ _ _ (c .before .before .before .before .before .write .ensures) (c .if6 .taken) in adds-accepted (s k) (ofPiece (x k)) (taking (s k) (x k)) _ _ (c .before .before .before .before .before .write .result) (takes (s k) (x k) (right (D (f .before .before .before))) (room (f .before .before .before)) (f .before .before .if3 .left) e agree ∙ ap accepted (sym (done .0 .new))) (run-map (s k .map) (λ q. true) (x k .offset) (length (x k .bytes)) _ _ (done .0)) (done .1 ∙ piece-stored (s k) (x k) agree (omega (arith, w, e)))
 
 same-length-11 : tie.Need-same-length-11
 same-length-11 c = search needs
@@ -120,14 +132,8 @@ same-length-11 c = search needs
 same-length-12 : tie.Need-same-length-12
 same-length-12 c = search needs
 
-agreed : (c : tie.Else6) → agrees (s (S (D (c .before .before .before .before .before .before .before)))) (ofPiece (x (S (D (c .before .before .before .before .before .before .before))))) ≡ true
-agreed c =
-    sym (piece-agrees (s (S (D (c .before .before .before .before .before .before .before)))) (x (S (D (c .before .before .before .before .before .before .before)))))
-    ∙ sym (c .before .agree .ensures)
-    ∙ not-false (c .before .agree .result) (c .if6 .left)
-
 returns-7 : tie.Need-returns-7
-returns-7 c = let e = c .before .before .before .before .before .before .before .before .before .before .before .before .before .before .before in let d = D e in let k = S d in let f = fits (c .before .before .before .before .before .before .before .before .before .before .before .before) in let w = enough e in let agree = agreed (c .before .before .before .before .before .before .before .before) in adds-accepted (s k) (ofPiece (x k)) (taking (s k) (x k)) _ _ (c .before .before .before .before .before .before .hold .result) (takes (s k) (x k) (right d) (room e) (c .before .before .before .before .before .before .before .before .before .before .before .before .before .before .if3 .left) f agree ∙ ap accepted (sym (c .before .before .before .before .before .before .hold .ensures .new))) (run-map (s k .map) (λ q. true) (x k .offset) (length (x k .bytes)) _ _ (c .before .before .before .before .before .before .hold .ensures)) (put-fits (s k .buffer) (x k .offset) (x k .bytes) _ _ (c .before .before .put .ensures) (omega (arith, w, f)) .1 ∙ piece-stored (s k) (x k) agree (omega (arith, w, f)))
+returns-7 c = let f = c .before .before .before .before .before .before .before .before .before .before .before in let k = T f in let kept = left (s k .map) (s k .buffer) (x k .offset) (x k .bytes) (c .before .before .before .before .before .before .before .before .agree .result) _ _ _ (c .before .before .before .before .before .write .ensures) (c .if6 .left) in adds-refused (s k) (ofPiece (x k)) (taking (s k) (x k)) _ _ 11 (takes-11 (s k) (x k) (right (D (f .before .before .before))) (room (f .before .before .before)) (f .before .before .if3 .left) (fits f) (agreed (c .before .before .before .before .before .before .before .before) ∙ c .if6 .left)) (kept .0) (kept .1)
 
 pub take-spec : {M : Type 1} → statement M
 take-spec =
@@ -150,11 +156,10 @@ take-spec =
     same-length-8
     returns-5
     agree-requires
+    write-requires
     same-length-9
     same-length-10
     returns-6
-    hold-requires
-    put-requires
     same-length-11
     same-length-12
     returns-7)
