@@ -1,3 +1,4 @@
 pub mod SpanLaws
 pub mod BitLaws
 pub mod MapLaws
+pub mod Cases

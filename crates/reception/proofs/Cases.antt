@@ -61,11 +61,6 @@ abbrev hole : ℕ → ℕ → Answer Hole
 hole start size = accepted (record { start = start; length = size })
 
 pub record Cases : Type 0 where
-  -- a map's bits
-  pub low-bit-first : held (0x01 ∷ 0x80 ∷ []) 0 ≡ true
-  pub next-bit : held (0x01 ∷ 0x80 ∷ []) 1 ≡ false
-  pub high-bit-last : held (0x01 ∷ 0x80 ∷ []) 15 ≡ true
-  pub next-byte : held (0x01 ∷ 0x80 ∷ []) 8 ≡ false
   -- opening
   pub length-0 : opening 0 [] [] ≡ refused 7
   pub length-1 : opening 1 (0xFF ∷ []) (0xFF ∷ []) ≡ accepted tt
@@ -153,10 +148,6 @@ pub record Cases : Type 0 where
 pub cases : Cases
 unfolding firstOf every count first bit held bitsFrom mapOf opening taking joining listing
 cases = record {
-  low-bit-first = refl;
-  next-bit = refl;
-  high-bit-last = refl;
-  next-byte = refl;
   length-0 = refl;
   length-1 = refl;
   length-32768 = refl;

@@ -66,11 +66,11 @@ fn hold_one(map: &mut [u8], p: usize) -> u32
     requires { ⌜ p / 8 < length (now map) ⌝ }
     ensures { λ r. ⌜ MapRun (now (map .entry)) (λ q. true) p 1 (now (map .exit)) r ⌝ }
 {
-    if bits::test(map, p) {
-        return 0;
+    if !bits::test(map, p) {
+        bits::mark(map, p);
+        return 1;
     }
-    bits::mark(map, p);
-    1
+    0
 }
 
 // The eight positions of map byte i become held; how many were not.

@@ -1,9 +1,10 @@
 -- `reception::pieces::hold_one` meets its contract: a position that is not held becomes so.
 -- Assumes nothing.
 use mathlib.Core.Path.{_≡_, refl, sym, ap, _∙_}
-use mathlib.Core.Bool.{true, not}
+use mathlib.Core.Bool.{Bool, true, not}
 use Prim.Native.Nat.{ℕ, _+_, _≤_, _<_}
 use native.Mathlib.Omega.{arith}
+use borrow.Author.Tests.{not-true, not-false}
 use borrow.Author.Needs.{needs}
 use Rattle.positions.specs.Map.{held}
 use Rattle.reception.proofs.MarkLaws.{run-nothing, run-one}
@@ -16,21 +17,21 @@ only p q l g = omega arith
 test-requires : tie.Need-test-requires
 test-requires c κs = search needs
 
+mark-requires : tie.Need-mark-requires
+mark-requires c κs = search needs
+
 same-length : tie.Need-same-length
 same-length c = search needs
 
 returns : tie.Need-returns
-returns c = let s = c .before .before .before .before in run-nothing (s .args .map .now) (λ q. true) (s .args .p) 1 (λ i. c .before .before .before .slice-known .given i .fits) (λ q l g. ap not (ap (held (s .args .map .now)) (only (s .args .p) q l g) ∙ sym (c .before .test .ensures) ∙ c .if1 .taken))
-
-mark-requires : tie.Need-mark-requires
-mark-requires c κs = search needs
+returns c = let s = c .before .before .before .before .before .before .before .before in run-one (s .args .map .now) (λ q. true) (s .args .p) (c .before .before .mark .last .0) refl (sym (c .before .before .before .before .before .test .ensures) ∙ not-true (c .before .before .before .before .before .test .result) (c .before .before .before .before .if1 .taken)) (c .before .before .mark .ensures)
 
 same-length-2 : tie.Need-same-length-2
 same-length-2 c = search needs
 
 returns-2 : tie.Need-returns-2
-returns-2 c = let s = c .before .before .before .before .before .before .before .before in run-one (s .args .map .now) (λ q. true) (s .args .p) (c .before .before .mark .last .0) refl (sym (c .before .before .before .before .before .test .ensures) ∙ c .before .before .before .before .if1 .left) (c .before .before .mark .ensures)
+returns-2 c = let s = c .before .before .before .before in run-nothing (s .args .map .now) (λ q. true) (s .args .p) 1 (λ i. c .before .before .before .slice-known .given i .fits) (λ q l g. ap not (ap (held (s .args .map .now)) (only (s .args .p) q l g) ∙ sym (c .before .test .ensures) ∙ not-false (c .before .test .result) (c .if1 .left)))
 
 pub hold-one-spec : {M : Type 1} → statement M
 hold-one-spec =
-    tie.close (tie.spec test-requires same-length returns mark-requires same-length-2 returns-2)
+    tie.close (tie.spec test-requires mark-requires same-length returns same-length-2 returns-2)
