@@ -7,6 +7,7 @@ ghost use lib.Dec.{eqb};
 ghost use lib.Count.{ones};
 ghost use Rattle.positions.specs.Spans.{count, first};
 ghost use Rattle.positions.specs.Map.{held, isSet, mapOf};
+ghost use Rattle.reception.specs.Reception.{longest};
 ghost use Rattle.reception.specs.Holes.{holeStart};
 ghost use Rattle.reception.specs.Inner.{onSide, sideOf};
 
@@ -89,7 +90,7 @@ fn lowest_set(b: u8) -> usize
 // The first position from `from` on and below n that is held, or where `side` is false, that is not
 // held; n where there is none. A map byte is looked at once.
 pub(crate) fn first(map: &[u8], from: usize, n: usize, side: bool) -> usize
-    requires { ⌜ (from ≤ n) × (n ≤ 32768) × (n ≤ length (now map) * 8) ⌝ }
+    requires { ⌜ (from ≤ n) × (n ≤ longest) × (n ≤ length (now map) * 8) ⌝ }
     ensures { λ r. ⌜ r ≡ first (onSide (now (map .entry)) side) from (n - from) ⌝ }
 {
     let mut p = from;
@@ -105,7 +106,7 @@ pub(crate) fn first(map: &[u8], from: usize, n: usize, side: bool) -> usize
 
 // The first position from `from` on and below n where a hole starts; n where there is none.
 pub(crate) fn hole_start(map: &[u8], from: usize, n: usize) -> usize
-    requires { ⌜ (from < n) × (n ≤ 32768) × (n ≤ length (now map) * 8) ⌝ }
+    requires { ⌜ (from < n) × (n ≤ longest) × (n ≤ length (now map) * 8) ⌝ }
     ensures { λ r. ⌜ r ≡ holeStart n (now (map .entry)) from ⌝ }
 {
     if from == 0 {

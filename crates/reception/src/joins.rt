@@ -6,11 +6,12 @@ ghost use Prim.Native.Nat.{_+_, _-_, _*_, _/_, _%_, _^_, _≤_, _<_};
 ghost use lib.ListN.{length};
 ghost use Rattle.positions.specs.Spans.{every};
 ghost use Rattle.positions.specs.Map.{held, isSet};
+ghost use Rattle.reception.specs.Reception.{longest};
 ghost use Rattle.reception.specs.Inner.{upTo, bytesAgree, bothAgree, MapRun, BufferRun};
 
 // Where the positions of a byte that are below n end.
 fn byte_end(from: usize, n: usize) -> usize
-    requires { ⌜ from < 32768 ⌝ }
+    requires { ⌜ from < longest ⌝ }
     ensures { λ r. ⌜ r ≡ upTo from n ⌝ }
 {
     if from + 8 <= n { from + 8 } else { n }
@@ -57,7 +58,7 @@ fn agree_byte(both: u8, buffer: &[u8], bytes: &[u8], from: usize, end: usize) ->
 // Whether two receptions agree at each position below n that both hold. Bytes of the maps with no such
 // position are passed over.
 pub(crate) fn agree(map: &[u8], buffer: &[u8], other: &[u8], bytes: &[u8], n: usize) -> bool
-    requires { ⌜ (n ≤ 32768) × (n ≤ length (now map) * 8) × (n ≤ length (now buffer)) × (n ≤ length (now other) * 8) × (n ≤ length (now bytes)) ⌝ }
+    requires { ⌜ (n ≤ longest) × (n ≤ length (now map) * 8) × (n ≤ length (now buffer)) × (n ≤ length (now other) * 8) × (n ≤ length (now bytes)) ⌝ }
     ensures { λ r. ⌜ r ≡ every (bothAgree (now (map .entry)) (now (buffer .entry)) (now (other .entry)) (now (bytes .entry))) 0 n ⌝ }
 {
     let mut p = 0;
@@ -131,7 +132,7 @@ fn add_byte(
 
 // Copies each position below n that only the second reception holds into the first; how many they are.
 pub(crate) fn add(map: &mut [u8], buffer: &mut [u8], other: &[u8], bytes: &[u8], n: usize) -> u32
-    requires { ⌜ (n ≤ 32768) × (n ≤ length (now map) * 8) × (n ≤ length (now buffer)) × (n ≤ length (now other) * 8) × (n ≤ length (now bytes)) ⌝ }
+    requires { ⌜ (n ≤ longest) × (n ≤ length (now map) * 8) × (n ≤ length (now buffer)) × (n ≤ length (now other) * 8) × (n ≤ length (now bytes)) ⌝ }
     ensures { λ r. ⌜ MapRun (now (map .entry)) (held (now (other .entry))) 0 n (now (map .exit)) r ⌝ }
     ensures { λ r. ⌜ BufferRun (λ q. held (now (other .entry)) q && not (held (now (map .entry)) q)) (now (bytes .entry)) (now (buffer .entry)) 0 n (now (buffer .exit)) ⌝ }
 {

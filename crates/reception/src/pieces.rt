@@ -5,6 +5,7 @@ ghost use mathlib.Core.Bool.{true};
 ghost use Prim.Native.Nat.{_+_, _*_, _/_, _≤_, _<_};
 ghost use lib.ListN.{length};
 ghost use Rattle.positions.specs.Spans.{every};
+ghost use Rattle.reception.specs.Reception.{longest};
 ghost use Rattle.reception.specs.Inner.{pieceAgrees, spanAt, emptyAhead, MapRun, AllOrNothing};
 
 // How many positions from p on are looked at in one step: 8 where an empty byte starts at p, else 1.
@@ -33,7 +34,7 @@ fn agrees_at(map: &[u8], buffer: &[u8], at: usize, piece: &[u8], p: usize) -> bo
 
 // Whether the piece, put at a position, agrees with every byte that is held.
 pub(crate) fn agree(map: &[u8], buffer: &[u8], at: usize, piece: &[u8]) -> bool
-    requires { ⌜ (at + length (now piece) ≤ 32768) × (at + length (now piece) ≤ length (now map) * 8) × (at + length (now piece) ≤ length (now buffer)) ⌝ }
+    requires { ⌜ (at + length (now piece) ≤ longest) × (at + length (now piece) ≤ length (now map) * 8) × (at + length (now piece) ≤ length (now buffer)) ⌝ }
     ensures { λ r. ⌜ r ≡ every (pieceAgrees (now (map .entry)) (now (buffer .entry)) at (now (piece .entry))) at (length (now (piece .entry))) ⌝ }
 {
     let end = at + piece.len();
@@ -50,7 +51,7 @@ pub(crate) fn agree(map: &[u8], buffer: &[u8], at: usize, piece: &[u8]) -> bool
 // How many positions from p on are marked in one step: 8 where a whole byte below `end` starts at p,
 // else 1.
 fn span(p: usize, end: usize) -> usize
-    requires { ⌜ (p < end) × (end ≤ 32768) ⌝ }
+    requires { ⌜ (p < end) × (end ≤ longest) ⌝ }
     ensures { λ r. ⌜ r ≡ spanAt p end ⌝ }
 {
     if p % 8 == 0 {
@@ -85,7 +86,7 @@ fn hold_eight(map: &mut [u8], i: usize) -> u32
 
 // The positions of one step from p on become held; how many were not.
 fn hold_next(map: &mut [u8], p: usize, end: usize) -> u32
-    requires { ⌜ (p < end) × (end ≤ 32768) × (end ≤ length (now map) * 8) ⌝ }
+    requires { ⌜ (p < end) × (end ≤ longest) × (end ≤ length (now map) * 8) ⌝ }
     ensures { λ r. ⌜ MapRun (now (map .entry)) (λ q. true) p (spanAt p end) (now (map .exit)) r ⌝ }
 {
     if span(p, end) == 8 {
@@ -96,7 +97,7 @@ fn hold_next(map: &mut [u8], p: usize, end: usize) -> u32
 
 // The n positions from a position on become held; how many were not.
 fn hold(map: &mut [u8], at: usize, n: usize) -> u32
-    requires { ⌜ (at + n ≤ 32768) × (at + n ≤ length (now map) * 8) ⌝ }
+    requires { ⌜ (at + n ≤ longest) × (at + n ≤ length (now map) * 8) ⌝ }
     ensures { λ r. ⌜ MapRun (now (map .entry)) (λ q. true) at n (now (map .exit)) r ⌝ }
 {
     let end = at + n;
@@ -112,7 +113,7 @@ fn hold(map: &mut [u8], at: usize, n: usize) -> u32
 // All or nothing: where the piece agrees, its positions become held and its bytes are written, and the
 // answer is how many were not held; where it does not, nothing changes.
 pub(crate) fn write(map: &mut [u8], buffer: &mut [u8], at: usize, piece: &[u8], agrees: bool) -> u32
-    requires { ⌜ (at + length (now piece) ≤ 32768) × (at + length (now piece) ≤ length (now map) * 8) × (at + length (now piece) ≤ length (now buffer)) ⌝ }
+    requires { ⌜ (at + length (now piece) ≤ longest) × (at + length (now piece) ≤ length (now map) * 8) × (at + length (now piece) ≤ length (now buffer)) ⌝ }
     ensures { λ r. ⌜ AllOrNothing (now (map .entry)) (now (buffer .entry)) at (now (piece .entry)) agrees (now (map .exit)) (now (buffer .exit)) r ⌝ }
 {
     if !agrees {

@@ -13,7 +13,7 @@ use Rattle.reason.specs.Answer.{accepted, refused}
 use Rattle.reason.proofs.Bools.{and-right, or-none}
 use Rattle.positions.specs.Spans.{every}
 use Rattle.positions.specs.Map.{held, mapSize}
-use Rattle.reception.specs.Reception.{Reception, wrongLength, shortSpace}
+use Rattle.reception.specs.Reception.{longest, Reception, wrongLength, shortSpace}
 use Rattle.reception.specs.Adding.{ofReception, agreesAt, agrees, newIn, Adds}
 use Rattle.reception.specs.Inner.{MapRun, BufferRun}
 use Rattle.reception.specs.Joining.{joining}
@@ -101,7 +101,7 @@ lengths c = eqb-true (T c .args .length) (T c .args .other-length) (and-right (e
 
 -- room for the first's length in both
 enough : (c : tie.Else3)
-    → (T c .args .length ≤ 32768) × (mapSize (T c .args .length) ≤ length (T c .args .map .now)) × (T c .args .length ≤ length (T c .args .buffer .now)) × (mapSize (T c .args .length) ≤ length (T c .args .other-map .now)) × (T c .args .length ≤ length (T c .args .other-buffer .now))
+    → (T c .args .length ≤ longest) × (mapSize (T c .args .length) ≤ length (T c .args .map .now)) × (T c .args .length ≤ length (T c .args .buffer .now)) × (mapSize (T c .args .length) ≤ length (T c .args .other-map .now)) × (T c .args .length ≤ length (T c .args .other-buffer .now))
 enough c =
     let r = or-none (wrongLength (T c .args .length)) _ (right (D (c .before))) in
     let f = or-none (shortSpace (T c .args .length) (T c .args .map .now) (T c .args .buffer .now)) _ (room (c .before)) in

@@ -11,7 +11,7 @@ use Rattle.reason.specs.Answer.{accepted}
 use Rattle.positions.specs.Spans.{first}
 use Rattle.positions.specs.Map.{held}
 use Rattle.positions.proofs.SpanLaws.{first-from, first-by}
-use Rattle.reception.specs.Reception.{wrongLength}
+use Rattle.reception.specs.Reception.{longest, wrongLength}
 use Rattle.reception.specs.Holes.{startsHole, holeStart, holeFrom}
 use Rattle.reception.specs.declared.Hole.{Hole}
 use Rattle.reception.proofs.OfferLaws.{right-length}
@@ -40,7 +40,7 @@ add-if2 c = search needs
 right : (c : tie.Else1) → wrongLength (c .before .before .before .args .length) ≡ false
 right c = sym (c .before .wrong-length .ensures) ∙ c .if1 .left
 
-small : (c : tie.Else1) → c .before .before .before .args .length ≤ 32768
+small : (c : tie.Else1) → c .before .before .before .args .length ≤ longest
 small c = right-length (c .before .before .before .args .length) (right c) .1
 
 returns-2 : tie.Need-returns-2

@@ -9,7 +9,7 @@ use lib.ListN.{length}
 use borrow.Author.Needs.{needs}
 use Rattle.octets.specs.Runs.{putIn}
 use Rattle.positions.specs.Map.{mapSize}
-use Rattle.reception.specs.Reception.{Reception, Piece, wrongLength, shortSpace}
+use Rattle.reception.specs.Reception.{longest, Reception, Piece, wrongLength, shortSpace}
 use Rattle.reason.specs.Answer.{accepted, refused}
 use Rattle.reception.specs.Adding.{ofPiece, agrees, Adds}
 use Rattle.reception.specs.Inner.{MapRun, AllOrNothing}
@@ -99,7 +99,7 @@ same-length-8 c = search needs
 returns-5 : tie.Need-returns-5
 returns-5 c = let e = c .before .before .before in let d = D e in refuses (S d) 10 (takes-10 (s (S d)) (x (S d)) (right d) (room e) (c .before .before .if3 .left) (omega arith))
 
-enough : (c : tie.Else2) → (S (D c) .args .length ≤ 32768) × (mapSize (S (D c) .args .length) ≤ length (S (D c) .args .map .now)) × (S (D c) .args .length ≤ length (S (D c) .args .buffer .now))
+enough : (c : tie.Else2) → (S (D c) .args .length ≤ longest) × (mapSize (S (D c) .args .length) ≤ length (S (D c) .args .map .now)) × (S (D c) .args .length ≤ length (S (D c) .args .buffer .now))
 enough c = let w = enough-space (S (D c) .args .length) (S (D c) .args .map .now) (S (D c) .args .buffer .now) (room c) in (right-length (S (D c) .args .length) (right (D c)) .1, w .0, w .1)
 
 abbrev T : tie.Else5 → tie.Start
