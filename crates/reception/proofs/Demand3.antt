@@ -19,7 +19,9 @@ use Rattle.reception.specs.Opening.{opened}
 use Rattle.reception.specs.Taking.{taking, taken}
 use Rattle.reception.specs.Joining.{joining, joined}
 use Rattle.reception.specs.Holes.{listing}
-use Rattle.reception.specs.Sequences.{takenAll, isAccepted, coveredIn, fits, covers, covered, AgreesWith, AllAgree, Station, receptionOf, Made, station, together, HoldsOf, itself, beyond}
+use Rattle.reception.specs.Sequences.{takenAll, isAccepted, coveredIn, fits, covers, covered, AgreesWith, AllAgree}
+use Rattle.reception.specs.Stations.{Station, receptionOf, Made, station, together}
+use Rattle.reception.specs.Contents.{HoldsOf, itself, beyond}
 use Rattle.reception.proofs.Holding.{same-reception, fits-inside, opened-holds, told, fitting-is-taken, unfitting-is-refused, taken-holds, join-accepted, joined-holds}
 use Rattle.reception.proofs.HoleLaws.{none-left-only-if}
 use Rattle.reception.proofs.LentSpace.{all-of-it, taken-beyond, joined-beyond}

@@ -23,7 +23,8 @@ use Rattle.reception.specs.Adding.{Offer, ofPiece, ofReception, offered,
 use Rattle.reception.specs.Opening.{cleared, opened}
 use Rattle.reception.specs.Taking.{taking, taken}
 use Rattle.reception.specs.Joining.{joining, joined}
-use Rattle.reception.specs.Sequences.{fits, covers, AgreesWith, HoldsOf, itself}
+use Rattle.reception.specs.Sequences.{fits, covers, AgreesWith}
+use Rattle.reception.specs.Contents.{HoldsOf, itself}
 use Rattle.reception.proofs.OfferLaws.{enough-space}
 use Rattle.reception.proofs.GivenReasons.{takes-9, takes-10, takes, joins}
 

@@ -23,7 +23,7 @@ use Rattle.reception.specs.Adding.{Offer, ofPiece, ofReception, offered,
 use Rattle.reception.specs.Opening.{cleared, opened}
 use Rattle.reception.specs.Taking.{takingChecks, taking, taken}
 use Rattle.reception.specs.Joining.{joiningChecks, joining, joined}
-use Rattle.reception.specs.Sequences.{itself, Beyond, beyond}
+use Rattle.reception.specs.Contents.{itself, Beyond, beyond}
 
 -- a reception and what lies beyond it are all that is lent
 pub all-of-it : (s t : Reception) → itself s ≡ itself t → beyond s ≡ beyond t → s ≡ t

@@ -43,7 +43,7 @@ agreesAt s o p = not (held (s .map) p && o .has p) || eqb (byteAt (s .buffer) p)
 abbrev pub agrees : Reception → Offer → Bool
 agrees s o = every (agreesAt s o) (o .start) (o .size)
 
--- a position that is offered and not held yet
+-- of the positions of an offer, one that it has and that is not held yet
 abbrev pub isNew : Reception → Offer → ℕ → Bool
 isNew s o p = o .has p && not (held (s .map) p)
 

@@ -7,5 +7,7 @@ pub mod Holes
 pub mod Held
 pub mod Listing
 pub mod Sequences
+pub mod Stations
+pub mod Contents
 pub mod Spare
 pub mod Inner

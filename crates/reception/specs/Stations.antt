@@ -1,0 +1,31 @@
+-- Stations that collect one file, and the receptions that they make (demand 3).
+-- Assumes nothing.
+use mathlib.Core.Path.{_≡_}
+use mathlib.Core.Bool.{false}
+use mathlib.Core.List.{List}
+use Prim.Native.Nat.{ℕ}
+use Rattle.octets.specs.Numbers.{AllBytes}
+use Rattle.reception.specs.Reception.{Reception, Piece, shortSpace}
+use Rattle.reception.specs.Opening.{opened}
+use Rattle.reception.specs.Taking.{taken}
+use Rattle.reception.specs.Joining.{joined}
+use Rattle.reception.specs.Sequences.{takenAll, AllAgree}
+
+-- A station: the map and the buffer that it was lent, long enough for the file, and the pieces that it takes in, of which every
+-- one that fits agrees with the file. Loss, repeats and order are free.
+pub record Station (number l : ℕ) (file : List ℕ) : Type 0 where
+  pub map : List ℕ
+  pub buffer : List ℕ
+  pub bytes : AllBytes map
+  pub room : shortSpace l map buffer ≡ false
+  pub pieces : List Piece
+  pub agree : AllAgree number l file pieces
+
+-- what it holds: the file is opened, and the pieces are taken in
+abbrev pub receptionOf : {number l : ℕ} {file : List ℕ} → Station number l file → Reception
+receptionOf {number} {l} a = takenAll (opened number l (a .map) (a .buffer)) (a .pieces)
+
+-- the receptions of the file that are made in this way, and by joining such
+pub data Made (number l : ℕ) (file : List ℕ) : Reception → Type 0 where
+  station : (a : Station number l file) → Made number l file (receptionOf a)
+  together : (s t : Reception) → Made number l file s → Made number l file t → Made number l file (joined s t)
