@@ -1,7 +1,7 @@
 -- Demand 3 over pieces: what a station holds after a sequence of pieces, and what joining receptions of one file gives.
 -- Assumes nothing.
 use mathlib.Core.Path.{_≡_, refl, sym, ap, ap₂, _∙_}
-use mathlib.Core.Bool.{Bool, true, false, cond, not, _&&_, _||_, and-true, and-not-self, or-false, or-self, or-assoc, or-comm}
+use mathlib.Core.Bool.{Bool, true, false, cond, not, _&&_, _||_, and-true, and-not-self, or-true, or-false, or-self, or-assoc, or-comm}
 use mathlib.Core.List.{List, [], _∷_, _++_}
 use Prim.Native.Nat.{ℕ, _*_, _<_}
 use native.Mathlib.Omega.{arith}
@@ -11,7 +11,7 @@ use Rattle.reason.specs.Answer.{Answer, accepted, refused}
 use Rattle.octets.specs.Numbers.{byteAt, AllBytes}
 use Rattle.positions.specs.Spans.{within, count}
 use Rattle.positions.specs.Map.{held}
-use Rattle.positions.proofs.SpanLaws.{count-same, count-zero}
+use Rattle.positions.proofs.SpanLaws.{in-span, count-same, count-zero}
 use Rattle.positions.proofs.MapLaws.{map-long, held-map}
 use Rattle.reception.specs.Reception.{Reception, Piece, wrongLength, shortSpace}
 use Rattle.reception.specs.Adding.{ofPiece, offered, after}
@@ -154,6 +154,45 @@ module _ (number l : ℕ) (file : List ℕ) (ok : wrongLength l ≡ false) where
   pub join-counts : (a b : Station number l file)
       → joining (receptionOf a) (receptionOf b) ≡ accepted (count (λ p. covered number l (b .pieces) p && not (covered number l (a .pieces) p)) 0 l)
   join-counts a b = join-accepted number l file ok (covered number l (a .pieces)) (covered number l (b .pieces)) (receptionOf a) (receptionOf b) (station-holds a) (station-holds b)
+
+  -- ---- a repeat does not spoil a file
+
+  -- the station a after one piece more
+  abbrev pub one-more-piece : Station number l file → (x : Piece) → (fits number l x ≡ true → AgreesWith file x) → Station number l file
+  one-more-piece a x agree = record {
+    map = a .map;
+    buffer = a .buffer;
+    bytes = a .bytes;
+    room = a .room;
+    pieces = a .pieces ++ (x ∷ []);
+    agree = all-agree (a .pieces) (x ∷ []) (a .agree) (agree, tt);
+  }
+
+  module _ (a : Station number l file) (x : Piece) (fit : fits number l x ≡ true) (agree : AgreesWith file x) where
+    covered-already : (p : ℕ) → within (x .offset) (length (x .bytes)) p ≡ true → covered number l (a .pieces ++ (x ∷ [])) p ≡ true
+    covered-already p w = covered-both (a .pieces) (x ∷ []) p ∙ rw (fit, w) (or-true (covered number l (a .pieces) p))
+
+    -- the same piece again: 0 new positions
+    pub repeat-counts-0 : taking (receptionOf (one-more-piece a x (λ _. agree))) x ≡ accepted 0
+    repeat-counts-0 =
+        piece-is-taken (one-more-piece a x (λ _. agree)) x fit agree
+        ∙ ap accepted (count-zero (λ p. not (covered number l (a .pieces ++ (x ∷ [])) p)) (x .offset) (length (x .bytes))
+        (λ p low g. ap not (covered-already p (in-span (x .offset) (length (x .bytes)) p low g))))
+
+    -- .. and nothing changes
+    pub repeat-changes-nothing : taken (receptionOf (one-more-piece a x (λ _. agree))) x ≡ receptionOf (one-more-piece a x (λ _. agree))
+    repeat-changes-nothing =
+        let b = one-more-piece a x (λ _. agree) in
+        let h = station-holds b in
+        all-of-it (taken (receptionOf b) x) (receptionOf b)
+        (same-reception number l file (λ p. covered number l (b .pieces) p || covers number l x p) (covered number l (b .pieces)) (taken (receptionOf b) x) (receptionOf b)
+        (taken-holds number l file ok (covered number l (b .pieces)) (receptionOf b) h x (λ _. agree)) h (λ p _. by p (within (x .offset) (length (x .bytes)) p) refl))
+        (taken-beyond (receptionOf b) (h .map-bytes) x)
+      where
+        by : (p : ℕ) (w : Bool) → within (x .offset) (length (x .bytes)) p ≡ w
+            → (covered number l (a .pieces ++ (x ∷ [])) p || fits number l x && within (x .offset) (length (x .bytes)) p) ≡ covered number l (a .pieces ++ (x ∷ [])) p
+        by p true w = ap (λ (b : Bool). b || fits number l x && within (x .offset) (length (x .bytes)) p) (covered-already p w) ∙ sym (covered-already p w)
+        by p false w = ap₂ (λ (f v : Bool). covered number l (a .pieces ++ (x ∷ [])) p || f && v) fit w ∙ or-false (covered number l (a .pieces ++ (x ∷ [])) p)
 
   -- ---- the laws of joining, among all receptions of the file that are made in this way
 

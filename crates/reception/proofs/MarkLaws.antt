@@ -38,10 +38,6 @@ absorbed true h e = refl
 absorbed false true e = sym e
 absorbed false false e = refl
 
-none-in : (w a h : Bool) → (w ≡ true → (h && not a) ≡ false) → a ≡ (a || w && h)
-none-in true a h e = absorbed a h (e refl)
-none-in false a h e = sym (or-false a)
-
 pub run-nothing : (m : List ℕ) (has : ℕ → Bool) (p n : ℕ) → AllBytes m → ((q : ℕ) → p ≤ q → q < p + n → (has q && not (held m q)) ≡ false)
     → MapRun m has p n m 0
 run-nothing m has p n all none = record {

@@ -15,6 +15,10 @@ use Rattle.positions.proofs.SpanLaws.{passed-over, found, first-is}
 use Rattle.positions.proofs.MapLaws.{held-by}
 use Rattle.reception.specs.Inner.{onSide, sideOf}
 
+-- no position is below n and not below it
+nothing : (n from : ℕ) → from ≤ n → n < from + (n - from) → ⊥
+nothing n from l a = omega arith
+
 side-small : (b : ℕ) (side : Bool) → b < 256 → sideOf b side < 256
 side-small b true h = h
 side-small b false h = omega arith
@@ -65,9 +69,6 @@ module _ (m : List ℕ) (all : AllBytes m) where
         pub stops-short : (n : ℕ) → k < 8 → from ≤ n → n ≤ p + k → n ≡ first (onSide m side) from (n - from)
         stops-short n h l g =
             sym (first-is (onSide m side) from (n - from) n l (omega arith) (λ q a b. up-to h q a (omega arith)) (λ a. absurd (nothing n from l a)))
-          where
-            nothing : (n from : ℕ) → from ≤ n → n < from + (n - from) → ⊥
-            nothing n from l a = omega arith
 
         pub goes-on : 8 ≤ k → (q : ℕ) → from ≤ q → q < p / 8 * 8 + 8 → onSide m side q ≡ false
         goes-on h q l g = ⊎-elim (λ a. passed q a (omega arith) g) (λ a. before q l a) (le-or-lt p q)
@@ -77,6 +78,3 @@ module _ (m : List ℕ) (all : AllBytes m) where
       → n ≡ first (onSide m side) from (n - from)
   ends side from n p l g before =
       sym (first-is (onSide m side) from (n - from) n l (omega arith) (λ q a b. before q a (omega arith)) (λ a. absurd (nothing n from l a)))
-    where
-      nothing : (n from : ℕ) → from ≤ n → n < from + (n - from) → ⊥
-      nothing n from l a = omega arith
