@@ -150,6 +150,11 @@ module _ (number l : ℕ) (file : List ℕ) (ok : wrongLength l ≡ false) where
       (λ p _. sym (covered-both (a .pieces) (b .pieces) p)))
       (joined-beyond (receptionOf a) (station-holds a .map-bytes) (receptionOf b) ∙ station-beyond a ∙ sym (station-beyond (one-after-both a b)))
 
+  -- so a station with any lent space, whose pieces cover what both sequences cover, holds the same
+  pub join-is-any-station : (a b c : Station number l file) → ((p : ℕ) → covered number l (c .pieces) p ≡ covered number l (a .pieces ++ b .pieces) p)
+      → itself (joined (receptionOf a) (receptionOf b)) ≡ itself (receptionOf c)
+  join-is-any-station a b c same = ap itself (join-is-one-station a b) ∙ same-coverage (one-after-both a b) c (λ p. sym (same p))
+
   -- the count that is returned: the positions that only the second held
   pub join-counts : (a b : Station number l file)
       → joining (receptionOf a) (receptionOf b) ≡ accepted (count (λ p. covered number l (b .pieces) p && not (covered number l (a .pieces) p)) 0 l)
@@ -203,9 +208,15 @@ module _ (number l : ℕ) (file : List ℕ) (ok : wrongLength l ≡ false) where
       let k = made-holds t n in
       (λ p. h .0 p || k .0 p, joined-holds number l file ok (h .0) (k .0) s t (h .1) (k .1))
 
-  -- no join among them is refused
-  pub never-refused : (s t : Reception) → Made number l file s → Made number l file t → (n : ℕ) × (joining s t ≡ accepted n)
-  never-refused s t m n = let h = made-holds s m in let k = made-holds t n in (_, join-accepted number l file ok (h .0) (k .0) s t (h .1) (k .1))
+  -- no join among them is refused, and it counts the positions that only the second holds
+  pub never-refused : (s t : Reception) → Made number l file s → Made number l file t
+      → joining s t ≡ accepted (count (λ p. held (t .map) p && not (held (s .map) p)) 0 l)
+  never-refused s t m n =
+      let h = made-holds s m in
+      let k = made-holds t n in
+      join-accepted number l file ok (h .0) (k .0) s t (h .1) (k .1)
+      ∙ ap accepted (count-same (λ p. k .0 p && not (h .0 p)) (λ p. held (t .map) p && not (held (s .map) p)) 0 l
+      (λ p _ g. ap₂ (λ (a b : Bool). a && not b) (sym (k .1 .holds p (omega arith))) (sym (h .1 .holds p (omega arith)))))
 
   module _ (s t : Reception) (m : Made number l file s) (n : Made number l file t) where
     S : ℕ → Bool
