@@ -11,6 +11,7 @@ use Rattle.octets.specs.Values.{valuesFrom}
 unfoldable pub bit : ℕ → ℕ → ℕ
 bit b k = b / 2 ^ k % 2
 
+-- the bit is set
 abbrev pub isSet : ℕ → ℕ → Bool
 isSet b k = eqb (bit b k) 1
 

@@ -13,7 +13,7 @@ use Rattle.reception.specs.Reception.{Reception, Piece}
 use Rattle.reception.specs.Opening.{opening, opened}
 use Rattle.reception.specs.Taking.{taking, taken}
 use Rattle.reception.specs.Joining.{joining, joined}
-use Rattle.reception.specs.Holes.{listing}
+use Rattle.reception.specs.Listing.{listing}
 use Rattle.reception.specs.Held.{heldOf, heldCount}
 use Rattle.reception.specs.Sequences.{takenAll}
 use Rattle.reception.specs.declared.Hole.{Hole}

@@ -18,7 +18,7 @@ use Rattle.reception.specs.Adding.{ofPiece, offered, after}
 use Rattle.reception.specs.Opening.{opened}
 use Rattle.reception.specs.Taking.{taking, taken}
 use Rattle.reception.specs.Joining.{joining, joined}
-use Rattle.reception.specs.Holes.{listing}
+use Rattle.reception.specs.Listing.{listing}
 use Rattle.reception.specs.Sequences.{takenAll, isAccepted, coveredIn, fits, covers, covered, AgreesWith, AllAgree}
 use Rattle.reception.specs.Stations.{Station, receptionOf, Made, station, together}
 use Rattle.reception.specs.Contents.{HoldsOf, itself, beyond}

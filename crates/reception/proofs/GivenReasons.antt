@@ -17,7 +17,8 @@ use Rattle.reception.specs.Adding.{ofPiece, ofReception, agrees, newIn}
 use Rattle.reception.specs.Opening.{cleared, opening, Opens}
 use Rattle.reception.specs.Taking.{taking}
 use Rattle.reception.specs.Joining.{joining}
-use Rattle.reception.specs.Holes.{holeStart, holeFrom, listing}
+use Rattle.reception.specs.Holes.{holeStart, holeFrom}
+use Rattle.reception.specs.Listing.{listing}
 
 -- ---- opening
 module _ (l : ℕ) (map buffer : List ℕ) where

@@ -16,8 +16,9 @@ use Rattle.positions.specs.Map.{held, mapSize}
 use Rattle.positions.proofs.SpanLaws.{first-from, first-by, passed-over, found, first-is, no-between}
 use Rattle.reception.specs.declared.Hole.{Hole}
 use Rattle.reception.specs.Reception.{wrongLength}
-use Rattle.reception.specs.Holes.{heldBefore, startsHole, holeStart, holeEnd, holeFrom, listingChecks, listing, IsHole}
-use Rattle.reception.specs.Listing.{endOf, goOn, listedFrom, lastEnd, Ascending, OneOf, Each, AllHoles, InHole}
+use Rattle.reception.specs.Holes.{heldBefore, startsHole, holeStart, holeEnd, holeFrom, IsHole}
+use Rattle.reception.specs.Listing.{listingChecks, listing}
+use Rattle.reception.specs.EveryHole.{endOf, goOn, listedFrom, lastEnd, Ascending, OneOf, Each, AllHoles, InHole}
 use Rattle.reception.proofs.HoleSteps.{start-here}
 use Rattle.reception.proofs.GivenReasons.{lists, lists-15}
 

@@ -9,7 +9,8 @@ use Rattle.reception.specs.Adding.{ofPiece, ofReception, newIn}
 use Rattle.reception.specs.Opening.{openingChecks, opening}
 use Rattle.reception.specs.Taking.{takingChecks, taking}
 use Rattle.reception.specs.Joining.{joiningChecks, joining}
-use Rattle.reception.specs.Holes.{holeFrom, listingChecks, listing}
+use Rattle.reception.specs.Holes.{holeFrom}
+use Rattle.reception.specs.Listing.{listingChecks, listing}
 
 pub open-in-order : (l : ℕ) (map buffer : List ℕ) → Exactly (openingChecks l map buffer) tt (opening l map buffer)
 unfolding opening

@@ -17,7 +17,7 @@ use Rattle.reception.specs.Adding.{Offer, addedAnswer, Adds}
 use Rattle.reception.specs.Opening.{Opens}
 use Rattle.reception.specs.Taking.{Takes}
 use Rattle.reception.specs.Joining.{Joins}
-use Rattle.reception.specs.Holes.{listing, listedAnswer}
+use Rattle.reception.specs.Listing.{listing, listedAnswer}
 use Rattle.reception.specs.Held.{heldOf, heldCount}
 
 -- `open`

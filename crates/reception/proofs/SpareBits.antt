@@ -23,14 +23,11 @@ use Rattle.reception.specs.Reception.{Reception, Piece, wrongLength, sho
 use Rattle.reception.specs.Adding.{Offer, ofPiece, ofReception, offered, agreesAt, agrees, isNew, newIn, mapWith, bufferWith, after}
 use Rattle.reception.specs.Taking.{taking, taken}
 use Rattle.reception.specs.Joining.{joining, joined}
-use Rattle.reception.specs.Holes.{heldBefore, startsHole, holeStart, holeEnd, holeFrom, listing}
+use Rattle.reception.specs.Holes.{heldBefore, startsHole, holeStart, holeEnd, holeFrom}
+use Rattle.reception.specs.Listing.{listing}
 use Rattle.reception.specs.Held.{heldOf, heldCount}
-use Rattle.reception.specs.Spare.{SameBelow}
+use Rattle.reception.specs.Spare.{SameBelow, withMap}
 use Rattle.reception.proofs.LentSpace.{taken-ends, joined-lengths}
-
--- the reception with another map
-abbrev pub withMap : Reception → List ℕ → Reception
-withMap s map = record { number = s .number; length = s .length; map = map; buffer = s .buffer }
 
 -- ---- the same offer, or one that has the same below l, to maps that are the same below l
 module _ (s : Reception) (map : List ℕ) (below : SameBelow (s .length) (s .map) map) (start size : ℕ) (has has′ : ℕ → Bool) (byte : ℕ → ℕ)

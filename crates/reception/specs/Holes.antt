@@ -2,17 +2,11 @@
 -- Assumes nothing.
 use mathlib.Core.Path.{_≡_}
 use mathlib.Core.Bool.{Bool, true, false, not, _&&_}
-use mathlib.Core.List.{List, [], _∷_}
+use mathlib.Core.List.{List}
 use Prim.Native.Nat.{ℕ, zero, suc, _+_, _-_, _≤_, _<_}
-use lib.Dec.{leb}
-use Rattle.reason.specs.Answer.{Answer, accepted, refused}
-use Rattle.reason.specs.Order.{Check, check, firstOf}
 use Rattle.positions.specs.Spans.{first}
 use Rattle.positions.specs.Map.{held}
-use Rattle.reception.specs.Reception.{wrongLength, shortMap}
 use Rattle.reception.specs.declared.Hole.{Hole}
-use Rattle.reception.specs.declared.Listed.{Listed}
-use Rattle.reception.specs.declared.Listed.the-variants.{Accepted, Refused}
 
 -- no unheld position stands right before p
 abbrev pub heldBefore : List ℕ → ℕ → Bool
@@ -36,19 +30,6 @@ abbrev pub holeFrom : ℕ → List ℕ → ℕ → Hole
 holeFrom l map place =
     let start = holeStart l map place in
     record { start = start; length = holeEnd l map start - start }
-
--- "Listing: 7, 12, 15"
-abbrev pub listingChecks : ℕ → List ℕ → ℕ → List Check
-listingChecks l map place = check (wrongLength l) 7 ∷ check (shortMap l map) 12 ∷ check (leb l (holeStart l map place)) 15 ∷ []
-
--- the answer: start and length of the hole, or the reason
-unfoldable pub listing : ℕ → List ℕ → ℕ → Answer Hole
-listing l map place = firstOf (listingChecks l map place) (holeFrom l map place)
-
--- the paper's number and values for each case of a `Listed`
-abbrev pub listedAnswer : Listed → Answer Hole
-listedAnswer (Accepted hole) = accepted hole
-listedAnswer (Refused n) = refused n
 
 -- What a hole is: a run of unheld positions below l that cannot be made longer.
 pub record IsHole (l : ℕ) (map : List ℕ) (hole : Hole) : Type 0 where

@@ -6,6 +6,7 @@ pub mod Joining
 pub mod Holes
 pub mod Held
 pub mod Listing
+pub mod EveryHole
 pub mod Sequences
 pub mod Stations
 pub mod Contents

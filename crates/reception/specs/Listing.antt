@@ -1,56 +1,26 @@
--- Listing every hole (01, "Reception" and "Fill request"): asked from a place, and then each time from the end of the last hole,
--- until reason 15.
+-- Listing a hole (01, "Reception"): the first that starts at a place or later.
 -- Assumes nothing.
-use mathlib.Core.Path.{_≡_}
-use mathlib.Core.Logic.{_⊎_}
 use mathlib.Core.List.{List, [], _∷_}
-use Prim.Native.Nat.{ℕ, zero, suc, _+_, _≤_, _<_}
+use Prim.Native.Nat.{ℕ}
+use lib.Dec.{leb}
 use Rattle.reason.specs.Answer.{Answer, accepted, refused}
-use Rattle.reception.specs.Holes.{listing, IsHole}
+use Rattle.reason.specs.Order.{Check, check, firstOf}
+use Rattle.positions.specs.Spans.{first}
+use Rattle.reception.specs.Reception.{wrongLength, shortMap}
 use Rattle.reception.specs.declared.Hole.{Hole}
+use Rattle.reception.specs.declared.Listed.{Listed}
+use Rattle.reception.specs.declared.Listed.the-variants.{Accepted, Refused}
+use Rattle.reception.specs.Holes.{holeStart, holeFrom}
 
--- the position behind a hole
-abbrev pub endOf : Hole → ℕ
-endOf hole = hole .start + hole .length
+-- "Listing: 7, 12, 15"
+abbrev pub listingChecks : ℕ → List ℕ → ℕ → List Check
+listingChecks l map place = check (wrongLength l) 7 ∷ check (shortMap l map) 12 ∷ check (leb l (holeStart l map place)) 15 ∷ []
 
--- a list that goes on where a hole was answered, and ends where none was
-abbrev pub goOn : Answer Hole → (Hole → List Hole) → List Hole
-goOn (accepted hole) more = hole ∷ more hole
-goOn (refused n) more = []
+-- the answer: start and length of the hole, or the reason
+unfoldable pub listing : ℕ → List ℕ → ℕ → Answer Hole
+listing l map place = firstOf (listingChecks l map place) (holeFrom l map place)
 
--- what is listed by n questions, the first from a place, each other from the end of the hole before
-abbrev pub listedFrom : ℕ → ℕ → List ℕ → ℕ → List Hole
-listedFrom zero l map place = []
-listedFrom (suc n) l map place = goOn (listing l map place) (λ hole. listedFrom n l map (endOf hole))
-
--- the place of the question after the last hole of a list, where the first was asked from a place
-abbrev pub lastEnd : ℕ → List Hole → ℕ
-lastEnd place [] = place
-lastEnd place (hole ∷ holes) = lastEnd (endOf hole) holes
-
--- the holes ascend: the first starts at a place or later, and at least one position stands between neighbours
-abbrev pub Ascending : ℕ → List Hole → Type 0
-Ascending place [] = Unit
-Ascending place (hole ∷ holes) = (place ≤ hole .start) × Ascending (suc (endOf hole)) holes
-
--- the hole is one of the list
-abbrev pub OneOf : Hole → List Hole → Type 0
-OneOf hole [] = ⊥
-OneOf hole (h ∷ holes) = (hole ≡ h) ⊎ OneOf hole holes
-
--- each of the list has the property
-abbrev pub Each : (Hole → Type 0) → List Hole → Type 0
-Each P [] = Unit
-Each P (h ∷ holes) = P h × Each P holes
-
--- What a list of all holes is: each of it is a hole, they ascend, so that none comes twice, every hole is one of it, and the question
--- after the last is answered by reason 15.
-pub record AllHoles (l : ℕ) (map : List ℕ) (holes : List Hole) : Type 0 where
-  pub are-holes : Each (IsHole l map) holes
-  pub ascend : Ascending 0 holes
-  pub every-one : (hole : Hole) → IsHole l map hole → OneOf hole holes
-  pub then-15 : listing l map (lastEnd 0 holes) ≡ refused 15
-
--- a position stands in a hole
-abbrev pub InHole : ℕ → List ℕ → ℕ → Type 0
-InHole l map p = (hole : Hole) × (IsHole l map hole × ((hole .start ≤ p) × (p < endOf hole)))
+-- the paper's number and values for each case of a `Listed`
+abbrev pub listedAnswer : Listed → Answer Hole
+listedAnswer (Accepted hole) = accepted hole
+listedAnswer (Refused n) = refused n

@@ -17,11 +17,12 @@ abbrev pub takenAll : Reception → List Piece → Reception
 takenAll s [] = s
 takenAll s (x ∷ xs) = takenAll (taken s x) xs
 
--- a position that an accepted piece of a sequence covered
+-- a piece was accepted
 abbrev pub isAccepted : Answer ℕ → Bool
 isAccepted (accepted n) = true
 isAccepted (refused n) = false
 
+-- a piece of the sequence covered the position, and was accepted when it was taken in
 abbrev pub coveredIn : Reception → List Piece → ℕ → Bool
 coveredIn s [] p = false
 coveredIn s (x ∷ xs) p = isAccepted (taking s x) && within (x .offset) (length (x .bytes)) p || coveredIn (taken s x) xs p

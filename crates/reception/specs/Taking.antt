@@ -11,7 +11,7 @@ use Rattle.reception.specs.Reception.{Reception, Piece, wrongLength, sho
 use Rattle.reception.specs.Adding.{ofPiece, agrees, newIn, after, Adds}
 use Rattle.reception.specs.declared.Added.{Added}
 
--- "Taking in a piece: 7 (L), 12, 9, 10, 11"
+-- "Taking in a piece: .. 7 (L), 12, 9, 10, 11"; the frame's reasons come before
 abbrev pub takingChecks : Reception → Piece → List Check
 takingChecks s x =
     check (wrongLength (s .length)) 7 ∷

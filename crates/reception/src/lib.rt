@@ -5,7 +5,7 @@
 // holes that are left. Each operation answers its values, or one numbered reason in the order that its
 // comment gives; a refusal changes no lent byte, and what lies beyond the file in the lent map and
 // buffer never changes. The contracts cite `specs/Opening.antt`, `specs/Taking.antt`,
-// `specs/Joining.antt` and `specs/Holes.antt`; what a sequence of pieces and joins leaves is in
+// `specs/Joining.antt`, `specs/Listing.antt` and `specs/Held.antt`; what a sequence of pieces and joins leaves is in
 // `proofs/Demand3.antt`, what a listed hole is in `proofs/HoleLaws.antt`.
 mod bits;
 mod joins;
@@ -17,7 +17,7 @@ ghost use mathlib.Core.Path.{_≡_};
 ghost use Rattle.reception.specs.Opening.{Opens};
 ghost use Rattle.reception.specs.Taking.{Takes};
 ghost use Rattle.reception.specs.Joining.{Joins};
-ghost use Rattle.reception.specs.Holes.{listing, listedAnswer};
+ghost use Rattle.reception.specs.Listing.{listing, listedAnswer};
 ghost use Rattle.reception.specs.Held.{heldOf, heldCount};
 
 // The longest file.
