@@ -1,21 +1,29 @@
 -- The cases of 01 that a reception decides, and both sides of its limits, by computation.
 -- Assumes nothing.
 use mathlib.Core.Path.{_≡_, refl}
-use mathlib.Core.Bool.{true, false}
+use mathlib.Core.Bool.{true, false, false≢true}
 use mathlib.Core.List.{List, [], _∷_, _++_}
-use Prim.Native.Nat.{ℕ}
+use Prim.Native.Nat.{ℕ, zero, suc}
+use native.Mathlib.Nat.{le-of-suc-le-suc, not-suc-le-zero}
+use lib.Dec.{lit<}
 use lib.ListN.{replicate}
 use Rattle.reason.specs.Answer.{Answer, accepted, refused}
 use Rattle.reason.specs.Order.{firstOf}
+use Rattle.octets.specs.Numbers.{AllBytes}
 use Rattle.positions.specs.Spans.{every, count, first}
 use Rattle.positions.specs.Map.{bit, held, bitsFrom, mapOf}
 use Rattle.reception.specs.Reception.{Reception, Piece}
+use Rattle.reception.specs.Adding.{addedAnswer}
 use Rattle.reception.specs.Opening.{opening, opened}
 use Rattle.reception.specs.Taking.{taking, taken}
 use Rattle.reception.specs.Joining.{joining, joined}
-use Rattle.reception.specs.Listing.{listing}
+use Rattle.reception.specs.Listing.{listing, listedAnswer}
+use Rattle.reception.specs.EveryHole.{listedFrom}
 use Rattle.reception.specs.Held.{heldOf, heldCount}
-use Rattle.reception.specs.Sequences.{takenAll}
+use Rattle.reception.specs.Sequences.{takenAll, AgreesWith}
+use Rattle.reception.specs.Stations.{Station, receptionOf}
+use Rattle.reception.specs.declared.Added.the-variants as added
+use Rattle.reception.specs.declared.Listed.the-variants as listed
 use Rattle.reception.specs.declared.Hole.{Hole}
 
 -- a piece of file 7
@@ -60,6 +68,43 @@ lent-buffer = 0x41 ∷ 0x42 ∷ 0x43 ∷ 0x44 ∷ 0x91 ∷ 0x92 ∷ 0x93 ∷ 0x9
 abbrev hole : ℕ → ℕ → Answer Hole
 hole start size = accepted (record { start = start; length = size })
 
+-- a file of 20 bytes, and a station that takes in pieces of it: late ones first, one twice, one of another file, one too far
+abbrev a-file : List ℕ
+a-file = 0x41 ∷ 0x42 ∷ 0x43 ∷ 0x44 ∷ 0x48 ∷ 0x49 ∷ 0x4A ∷ 0x4B ∷ 0x45 ∷ 0x46 ∷ replicate 10 0x4C
+
+pub bytes-lent : AllBytes lent-map
+bytes-lent zero = lit< tt
+bytes-lent (suc zero) = lit< tt
+bytes-lent (suc (suc zero)) = lit< tt
+bytes-lent (suc (suc (suc zero))) = lit< tt
+bytes-lent (suc (suc (suc (suc i)))) = lit< tt
+
+pub first-agrees : AgreesWith a-file first-piece
+first-agrees zero h = refl
+first-agrees (suc zero) h = refl
+first-agrees (suc (suc zero)) h = refl
+first-agrees (suc (suc (suc zero))) h = refl
+first-agrees (suc (suc (suc (suc i)))) h = absurd (not-suc-le-zero (le-of-suc-le-suc (le-of-suc-le-suc (le-of-suc-le-suc (le-of-suc-le-suc h)))))
+
+pub second-agrees : AgreesWith a-file second-piece
+second-agrees zero h = refl
+second-agrees (suc zero) h = refl
+second-agrees (suc (suc i)) h = absurd (not-suc-le-zero (le-of-suc-le-suc (le-of-suc-le-suc h)))
+
+pub opens-20 : opening 20 lent-map lent-buffer ≡ accepted tt
+unfolding firstOf opening
+opens-20 = refl
+
+abbrev a-station : Station 7 20 a-file
+a-station = record {
+  map = lent-map;
+  buffer = lent-buffer;
+  bytes = bytes-lent;
+  opens = opens-20;
+  pieces = second-piece ∷ first-piece ∷ second-piece ∷ record { number = 8; offset = 0; bytes = 0x99 ∷ [] } ∷ piece 19 (0x99 ∷ 0x99 ∷ []) ∷ [];
+  agree = (λ _. second-agrees, (λ _. first-agrees, (λ _. second-agrees, (λ e. absurd (false≢true e), (λ e. absurd (false≢true e), tt)))));
+}
+
 pub record Cases : Type 0 where
   -- opening
   pub length-0 : opening 0 [] [] ≡ refused 7
@@ -72,6 +117,7 @@ pub record Cases : Type 0 where
   pub map-exact : opening 9 (0 ∷ 0 ∷ []) (replicate 9 0) ≡ accepted tt
   pub map-of-eight : opening 8 (0 ∷ []) (replicate 8 0) ≡ accepted tt
   pub buffer-short : opening 9 (0 ∷ 0 ∷ []) (replicate 8 0) ≡ refused 12
+  pub open-longer : opening 20 lent-map lent-buffer ≡ accepted tt
   pub opened-map : opened 7 20 lent-map lent-buffer .map ≡ 0 ∷ 0 ∷ 0 ∷ 0xA5 ∷ []
   pub opened-buffer : opened 7 20 lent-map lent-buffer .buffer ≡ replicate 20 0 ++ 0x96 ∷ 0x97 ∷ []
   -- taking pieces in
@@ -82,6 +128,8 @@ pub record Cases : Type 0 where
   pub last-byte : taking longest-file (piece 32767 (0x41 ∷ [])) ≡ accepted 1
   pub past-the-end : taking longest-file (piece 32768 (0x41 ∷ [])) ≡ refused 10
   pub offset-65536 : taking longest-file (piece 65536 (0x41 ∷ [])) ≡ refused 10
+  pub offset-131072 : taking example (piece 131072 (0x41 ∷ [])) ≡ refused 10
+  pub offset-largest : taking example (piece 4294967295 (0x51 ∷ [])) ≡ refused 10
   pub repeat-counts-0 : taking example first-piece ≡ accepted 0
   pub repeat-leaves : taken example first-piece ≡ example
   pub overlap-counts-new : taking example (piece 2 (0x43 ∷ 0x44 ∷ 0x51 ∷ 0x52 ∷ 0x53 ∷ [])) ≡ accepted 3
@@ -90,15 +138,19 @@ pub record Cases : Type 0 where
   pub last-byte-differs : taking example (piece 6 (0x51 ∷ 0x52 ∷ 0x45 ∷ 0x47 ∷ [])) ≡ refused 11
   pub refused-leaves : taken example (piece 6 (0x51 ∷ 0x52 ∷ 0x45 ∷ 0x47 ∷ [])) ≡ example
   pub other-number : taking example (record { number = 8; offset = 0; bytes = 0x41 ∷ [] }) ≡ refused 9
+  pub number-0 : taking example (record { number = 0; offset = 0; bytes = 0x41 ∷ [] }) ≡ refused 9
+  pub number-65543 : taking example (record { number = 65543; offset = 0; bytes = 0x41 ∷ [] }) ≡ refused 9
   pub to-the-end : taking example (piece 19 (0x51 ∷ [])) ≡ accepted 1
   pub one-too-far : taking example (piece 19 (0x51 ∷ 0x52 ∷ [])) ≡ refused 10
   pub empty-piece : taking example (piece 20 []) ≡ accepted 0
   pub empty-piece-too-far : taking example (piece 21 []) ≡ refused 10
   pub twelve-before-nine : taking (twenty (0x0F ∷ 0x03 ∷ []) buffer20) (record { number = 8; offset = 0; bytes = 0x41 ∷ [] }) ≡ refused 12
-  pub seven-before-twelve : taking (record { number = 7; length = 0; map = []; buffer = [] }) first-piece ≡ refused 7
+  pub seven-before-twelve : taking (record { number = 7; length = 32769; map = []; buffer = [] }) first-piece ≡ refused 7
+  pub take-buffer-short : taking (twenty (0x0F ∷ 0x03 ∷ 0x00 ∷ []) (replicate 19 0x41)) (piece 10 (0x51 ∷ [])) ≡ refused 12
   pub nine-before-ten : taking example (record { number = 8; offset = 20; bytes = 0x41 ∷ [] }) ≡ refused 9
   pub ten-before-eleven : taking example (piece 9 (replicate 12 0x99)) ≡ refused 10
   pub longer-space : taking (twenty lent-map lent-buffer) (piece 3 (0x44 ∷ 0x51 ∷ [])) ≡ accepted 1
+  pub longer-space-too-far : taking (twenty lent-map lent-buffer) (piece 19 (0x51 ∷ 0x52 ∷ [])) ≡ refused 10
   pub longer-space-map : taken (twenty lent-map lent-buffer) (piece 3 (0x44 ∷ 0x51 ∷ [])) .map ≡ 0x1F ∷ 0x03 ∷ 0xF0 ∷ 0xA5 ∷ []
   pub longer-space-buffer : taken (twenty lent-map lent-buffer) (piece 17 (0x51 ∷ 0x52 ∷ 0x53 ∷ [])) .buffer
       ≡ 0x41 ∷ 0x42 ∷ 0x43 ∷ 0x44 ∷ 0x91 ∷ 0x92 ∷ 0x93 ∷ 0x94 ∷ 0x45 ∷ 0x46 ∷ replicate 7 0x95 ++ 0x51 ∷ 0x52 ∷ 0x53 ∷ 0x96 ∷ 0x97 ∷ []
@@ -113,22 +165,34 @@ pub record Cases : Type 0 where
   pub join-refused-leaves : joined example middle ≡ example
   pub join-first-length : joining (record { number = 7; length = 0; map = []; buffer = [] }) front ≡ refused 7
   pub join-second-length : joining front (record { number = 7; length = 0; map = []; buffer = [] }) ≡ refused 7
+  pub join-seven-before-twelve-first : joining (record { number = 7; length = 32769; map = []; buffer = [] }) front ≡ refused 7
+  pub join-seven-before-twelve : joining front (record { number = 7; length = 32769; map = []; buffer = [] }) ≡ refused 7
   pub join-first-short : joining (twenty (0 ∷ 0 ∷ []) buffer20) front ≡ refused 12
   pub join-second-short : joining front (twenty (0 ∷ 0 ∷ 0 ∷ []) (replicate 19 0)) ≡ refused 12
+  pub join-first-buffer-short : joining (twenty (0 ∷ 0 ∷ 0 ∷ []) (replicate 19 0)) front ≡ refused 12
+  pub join-short-by-its-own-length : joining (twenty (0 ∷ 0 ∷ 0 ∷ []) (replicate 19 0)) (record { number = 7; length = 19; map = 0 ∷ 0 ∷ 0 ∷ []; buffer = replicate 19 0 }) ≡ refused 12
+  pub join-twelve-before-nine : joining front (record { number = 8; length = 20; map = 0 ∷ 0 ∷ []; buffer = replicate 20 0 }) ≡ refused 12
   pub join-other-number : joining front (record { number = 8; length = 20; map = 0x01 ∷ 0 ∷ 0 ∷ []; buffer = replicate 20 0x99 }) ≡ refused 9
+  pub join-number-0 : joining front (record { number = 0; length = 20; map = 0 ∷ 0 ∷ 0 ∷ []; buffer = replicate 20 0 }) ≡ refused 9
+  pub join-number-65543 : joining front (record { number = 65543; length = 20; map = 0 ∷ 0 ∷ 0 ∷ []; buffer = replicate 20 0 }) ≡ refused 9
   pub join-other-length : joining front (record { number = 7; length = 19; map = 0x01 ∷ 0 ∷ 0 ∷ []; buffer = replicate 19 0x99 }) ≡ refused 9
+  pub join-longer-length : joining front (record { number = 7; length = 21; map = 0 ∷ 0 ∷ 0 ∷ []; buffer = replicate 21 0 }) ≡ refused 9
   pub join-keeps-spare-bits : joined (twenty lent-map lent-buffer) (twenty (0x00 ∷ 0x00 ∷ 0x0F ∷ []) (replicate 20 0x99)) .map ≡ 0x0F ∷ 0x03 ∷ 0xFF ∷ 0xA5 ∷ []
   pub join-copies-no-spare-bits : joined front (twenty (0x00 ∷ 0x00 ∷ 0xF8 ∷ []) (replicate 20 0x99)) .map ≡ 0x0F ∷ 0x00 ∷ 0x08 ∷ []
   pub join-keeps-unheld : joined (twenty lent-map lent-buffer) (twenty (0x10 ∷ 0x00 ∷ 0x00 ∷ []) (replicate 20 0x99)) .buffer
       ≡ 0x41 ∷ 0x42 ∷ 0x43 ∷ 0x44 ∷ 0x99 ∷ 0x92 ∷ 0x93 ∷ 0x94 ∷ 0x45 ∷ 0x46 ∷ replicate 10 0x95 ++ 0x96 ∷ 0x97 ∷ []
+  pub join-second-longer : joining front (twenty (0x10 ∷ 0x00 ∷ 0xF0 ∷ 0xFF ∷ []) (replicate 32 0x99)) ≡ accepted 1
+  pub join-second-longer-map : joined front (twenty (0x10 ∷ 0x00 ∷ 0xF0 ∷ 0xFF ∷ []) (replicate 32 0x99)) .map ≡ 0x1F ∷ 0x00 ∷ 0x00 ∷ []
   -- listing
   pub first-hole : listing 20 (0x0F ∷ 0x03 ∷ 0x00 ∷ []) 0 ≡ hole 4 4
   pub hole-at-place : listing 20 (0x0F ∷ 0x03 ∷ 0x00 ∷ []) 4 ≡ hole 4 4
   pub place-in-hole : listing 20 (0x0F ∷ 0x03 ∷ 0x00 ∷ []) 5 ≡ hole 10 10
   pub second-hole : listing 20 (0x0F ∷ 0x03 ∷ 0x00 ∷ []) 8 ≡ hole 10 10
   pub no-more : listing 20 (0x0F ∷ 0x03 ∷ 0x00 ∷ []) 11 ≡ refused 15
+  pub all-listed : listedFrom 20 20 (0x0F ∷ 0x03 ∷ 0x00 ∷ []) 0 ≡ record { start = 4; length = 4 } ∷ record { start = 10; length = 10 } ∷ []
   pub place-at-end : listing 20 (0x0F ∷ 0x03 ∷ 0x00 ∷ []) 20 ≡ refused 15
   pub place-beyond : listing 20 (0x0F ∷ 0x03 ∷ 0x00 ∷ []) 4294967295 ≡ refused 15
+  pub place-65536 : listing 20 (0x0F ∷ 0x03 ∷ 0x00 ∷ []) 65536 ≡ refused 15
   pub over-a-byte : listing 20 (0x0F ∷ 0xF0 ∷ 0x0F ∷ []) 0 ≡ hole 4 8
   pub nothing-held : listing 20 (0x00 ∷ 0x00 ∷ 0x00 ∷ []) 0 ≡ hole 0 20
   pub nothing-held-spare-set : listing 20 (0x00 ∷ 0x00 ∷ 0xF0 ∷ []) 0 ≡ hole 0 20
@@ -136,14 +200,28 @@ pub record Cases : Type 0 where
   pub last-position : listing 20 (0xFF ∷ 0xFF ∷ 0xF7 ∷ []) 0 ≡ hole 19 1
   pub list-length : listing 0 [] 0 ≡ refused 7
   pub list-length-32769 : listing 32769 (replicate 4097 0) 0 ≡ refused 7
+  pub list-seven-before-twelve : listing 32769 [] 0 ≡ refused 7
+  pub list-longer-map : listing 20 lent-map 10 ≡ hole 10 10
   pub list-short : listing 20 (0x0F ∷ 0x03 ∷ []) 20 ≡ refused 12
   -- what a host asks
   pub held-3 : heldOf 20 lent-map 3 ≡ true
   pub not-held-4 : heldOf 20 lent-map 4 ≡ false
   pub spare-is-not-held : heldOf 20 lent-map 20 ≡ false
   pub beyond-the-map : heldOf 4294967295 lent-map 32 ≡ false
+  pub position-65536 : heldOf 4294967295 lent-map 65536 ≡ false
   pub held-in-all : heldCount 20 lent-map ≡ 6
+  pub held-in-exact-map : heldCount 20 (0x0F ∷ 0x03 ∷ 0x00 ∷ []) ≡ 6
+  pub held-beyond-map : heldCount 40 lent-map ≡ 14
+  pub held-65536 : heldCount 65536 lent-map ≡ 14
   pub held-in-longer-map : heldCount 24 lent-map ≡ 10
+  -- the paper's number and values of each answer
+  pub added-accepted : addedAnswer (added.Accepted 6) ≡ accepted 6
+  pub added-refused : addedAnswer (added.Refused 11) ≡ refused 11
+  pub listed-accepted : listedAnswer (listed.Accepted (record { start = 4; length = 6 })) ≡ hole 4 6
+  pub listed-refused : listedAnswer (listed.Refused 15) ≡ refused 15
+  -- a station with longer lent space: repeats, any order, a piece of another file, a piece beyond the end
+  pub station-map : receptionOf a-station .map ≡ 0x0F ∷ 0x03 ∷ 0x00 ∷ 0xA5 ∷ []
+  pub station-buffer : receptionOf a-station .buffer ≡ buffer20 ++ 0x96 ∷ 0x97 ∷ []
 
 pub cases : Cases
 unfolding firstOf every count first bit held bitsFrom mapOf opening taking joining listing
@@ -158,6 +236,7 @@ cases = record {
   map-exact = refl;
   map-of-eight = refl;
   buffer-short = refl;
+  open-longer = refl;
   opened-map = refl;
   opened-buffer = refl;
   first-taken = refl;
@@ -167,6 +246,8 @@ cases = record {
   last-byte = refl;
   past-the-end = refl;
   offset-65536 = refl;
+  offset-131072 = refl;
+  offset-largest = refl;
   repeat-counts-0 = refl;
   repeat-leaves = refl;
   overlap-counts-new = refl;
@@ -175,15 +256,19 @@ cases = record {
   last-byte-differs = refl;
   refused-leaves = refl;
   other-number = refl;
+  number-0 = refl;
+  number-65543 = refl;
   to-the-end = refl;
   one-too-far = refl;
   empty-piece = refl;
   empty-piece-too-far = refl;
   twelve-before-nine = refl;
   seven-before-twelve = refl;
+  take-buffer-short = refl;
   nine-before-ten = refl;
   ten-before-eleven = refl;
   longer-space = refl;
+  longer-space-too-far = refl;
   longer-space-map = refl;
   longer-space-buffer = refl;
   join-counts-6 = refl;
@@ -196,20 +281,32 @@ cases = record {
   join-refused-leaves = refl;
   join-first-length = refl;
   join-second-length = refl;
+  join-seven-before-twelve-first = refl;
+  join-seven-before-twelve = refl;
   join-first-short = refl;
   join-second-short = refl;
+  join-first-buffer-short = refl;
+  join-short-by-its-own-length = refl;
+  join-twelve-before-nine = refl;
   join-other-number = refl;
+  join-number-0 = refl;
+  join-number-65543 = refl;
   join-other-length = refl;
+  join-longer-length = refl;
   join-keeps-spare-bits = refl;
   join-copies-no-spare-bits = refl;
   join-keeps-unheld = refl;
+  join-second-longer = refl;
+  join-second-longer-map = refl;
   first-hole = refl;
   hole-at-place = refl;
   place-in-hole = refl;
   second-hole = refl;
   no-more = refl;
+  all-listed = refl;
   place-at-end = refl;
   place-beyond = refl;
+  place-65536 = refl;
   over-a-byte = refl;
   nothing-held = refl;
   nothing-held-spare-set = refl;
@@ -217,11 +314,23 @@ cases = record {
   last-position = refl;
   list-length = refl;
   list-length-32769 = refl;
+  list-seven-before-twelve = refl;
+  list-longer-map = refl;
   list-short = refl;
   held-3 = refl;
   not-held-4 = refl;
   spare-is-not-held = refl;
   beyond-the-map = refl;
+  position-65536 = refl;
   held-in-all = refl;
+  held-in-exact-map = refl;
+  held-beyond-map = refl;
+  held-65536 = refl;
   held-in-longer-map = refl;
+  added-accepted = refl;
+  added-refused = refl;
+  listed-accepted = refl;
+  listed-refused = refl;
+  station-map = refl;
+  station-buffer = refl;
 }

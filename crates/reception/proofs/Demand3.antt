@@ -13,15 +13,16 @@ use Rattle.positions.specs.Spans.{within, count}
 use Rattle.positions.specs.Map.{held}
 use Rattle.positions.proofs.SpanLaws.{in-span, count-same, count-zero}
 use Rattle.positions.proofs.MapLaws.{map-long, held-map}
-use Rattle.reception.specs.Reception.{Reception, Piece, wrongLength, shortSpace}
+use Rattle.reception.specs.Reception.{Reception, Piece, wrongLength}
 use Rattle.reception.specs.Adding.{ofPiece, offered, after}
-use Rattle.reception.specs.Opening.{opened}
+use Rattle.reception.specs.Opening.{opening, opened}
 use Rattle.reception.specs.Taking.{taking, taken}
 use Rattle.reception.specs.Joining.{joining, joined}
 use Rattle.reception.specs.Listing.{listing}
 use Rattle.reception.specs.Sequences.{takenAll, isAccepted, coveredIn, fits, covers, covered, AgreesWith, AllAgree}
 use Rattle.reception.specs.Stations.{Station, receptionOf, Made, station, together}
 use Rattle.reception.specs.Contents.{HoldsOf, itself, beyond}
+use Rattle.reception.proofs.GivenReasons.{opens-only-if}
 use Rattle.reception.proofs.Holding.{same-reception, fits-inside, opened-holds, told, fitting-is-taken, unfitting-is-refused, taken-holds, join-accepted, joined-holds}
 use Rattle.reception.proofs.HoleLaws.{none-left-only-if}
 use Rattle.reception.proofs.LentSpace.{all-of-it, taken-beyond, joined-beyond}
@@ -69,9 +70,9 @@ module _ (number l : ℕ) (file : List ℕ) (ok : wrongLength l ≡ false) where
 
   -- a position is held exactly if a piece that fits covered it, held bytes are the file's, the others and the spare bits are zero
   pub station-holds : (a : Station number l file) → HoldsOf number l file (covered number l (a .pieces)) (receptionOf a)
-  station-holds a = after-pieces (a .pieces) (λ p. false) (opened number l (a .map) (a .buffer)) (opened-holds number l file (a .map) (a .buffer) (a .room) (a .bytes)) (a .agree)
+  station-holds a = after-pieces (a .pieces) (λ p. false) (opened number l (a .map) (a .buffer)) (opened-holds number l file (a .map) (a .buffer) (opens-only-if l (a .map) (a .buffer) (a .opens) .1) (a .bytes)) (a .agree)
 
-  -- of such pieces, those that fit are the accepted ones
+  -- what the accepted pieces cover is what the fitting pieces cover
   accepted-by : (S : ℕ → Bool) (s : Reception) → HoldsOf number l file S s → (x : Piece) → (fits number l x ≡ true → AgreesWith file x) → (b : Bool) → fits number l x ≡ b
       → isAccepted (taking s x) ≡ b
   accepted-by S s h x agree true e = ap isAccepted (fitting-is-taken number l file ok S s h x e (agree e))
@@ -85,7 +86,12 @@ module _ (number l : ℕ) (file : List ℕ) (ok : wrongLength l ≡ false) where
 
   pub accepted-are-fitting : (a : Station number l file) (p : ℕ) → coveredIn (opened number l (a .map) (a .buffer)) (a .pieces) p ≡ covered number l (a .pieces) p
   accepted-are-fitting a p =
-      accepted-cover (a .pieces) (λ q. false) (opened number l (a .map) (a .buffer)) (opened-holds number l file (a .map) (a .buffer) (a .room) (a .bytes)) (a .agree) p
+      accepted-cover (a .pieces) (λ q. false) (opened number l (a .map) (a .buffer)) (opened-holds number l file (a .map) (a .buffer) (opens-only-if l (a .map) (a .buffer) (a .opens) .1) (a .bytes)) (a .agree) p
+
+  -- in the words of the demand: a position is held exactly if an accepted piece covered it, held bytes are the file's, others zero
+  pub holds-the-accepted : (a : Station number l file) → HoldsOf number l file (coveredIn (opened number l (a .map) (a .buffer)) (a .pieces)) (receptionOf a)
+  holds-the-accepted a =
+      told number l file (covered number l (a .pieces)) (coveredIn (opened number l (a .map) (a .buffer)) (a .pieces)) (receptionOf a) (λ p. sym (accepted-are-fitting a p)) (station-holds a)
 
   -- a piece that fits is accepted, and the answer counts the positions that no piece had covered; any other is refused
   pub piece-is-taken : (a : Station number l file) (x : Piece) → fits number l x ≡ true → AgreesWith file x
@@ -115,7 +121,7 @@ module _ (number l : ℕ) (file : List ℕ) (ok : wrongLength l ≡ false) where
 
   pub station-beyond : (a : Station number l file) → beyond (receptionOf a) ≡ beyond (opened number l (a .map) (a .buffer))
   station-beyond a =
-      pieces-beyond (a .pieces) (λ p. false) (opened number l (a .map) (a .buffer)) (opened-holds number l file (a .map) (a .buffer) (a .room) (a .bytes)) (a .agree)
+      pieces-beyond (a .pieces) (λ p. false) (opened number l (a .map) (a .buffer)) (opened-holds number l file (a .map) (a .buffer) (opens-only-if l (a .map) (a .buffer) (a .opens) .1) (a .bytes)) (a .agree)
 
   -- ---- 2. joining two stations is one station after both sequences
 
@@ -134,7 +140,7 @@ module _ (number l : ℕ) (file : List ℕ) (ok : wrongLength l ≡ false) where
     map = a .map;
     buffer = a .buffer;
     bytes = a .bytes;
-    room = a .room;
+    opens = a .opens;
     pieces = a .pieces ++ b .pieces;
     agree = all-agree (a .pieces) (b .pieces) (a .agree) (b .agree);
   }
@@ -168,7 +174,7 @@ module _ (number l : ℕ) (file : List ℕ) (ok : wrongLength l ≡ false) where
     map = a .map;
     buffer = a .buffer;
     bytes = a .bytes;
-    room = a .room;
+    opens = a .opens;
     pieces = a .pieces ++ (x ∷ []);
     agree = all-agree (a .pieces) (x ∷ []) (a .agree) (agree, tt);
   }
@@ -253,14 +259,17 @@ module _ (number l : ℕ) (file : List ℕ) (ok : wrongLength l ≡ false) where
         join-accepted number l file ok (λ p. S p || T p) T (joined s t) t (joined-holds number l file ok S T s t holds-s holds-t) holds-t
         ∙ ap accepted (count-zero (λ p. T p && not (S p || T p)) 0 l (λ p _ _. nothing-new (S p) (T p)))
 
-    -- any grouping
-    pub any-grouping : (u : Reception) → Made number l file u → itself (joined (joined s t) u) ≡ itself (joined s (joined t u))
+    -- any grouping, in all that was lent
+    pub any-grouping : (u : Reception) → Made number l file u → joined (joined s t) u ≡ joined s (joined t u)
     any-grouping u o =
         let k = made-holds u o in
-        same-reception number l file (λ p. (S p || T p) || k .0 p) (λ p. S p || (T p || k .0 p)) (joined (joined s t) u) (joined s (joined t u))
-        (joined-holds number l file ok (λ p. S p || T p) (k .0) (joined s t) u (joined-holds number l file ok S T s t holds-s holds-t) (k .1))
+        let both = joined-holds number l file ok S T s t holds-s holds-t in
+        all-of-it (joined (joined s t) u) (joined s (joined t u))
+        (same-reception number l file (λ p. (S p || T p) || k .0 p) (λ p. S p || (T p || k .0 p)) (joined (joined s t) u) (joined s (joined t u))
+        (joined-holds number l file ok (λ p. S p || T p) (k .0) (joined s t) u both (k .1))
         (joined-holds number l file ok S (λ p. T p || k .0 p) s (joined t u) holds-s (joined-holds number l file ok T (k .0) t u holds-t (k .1)))
-        (λ p _. or-assoc (S p) (T p) (k .0 p))
+        (λ p _. or-assoc (S p) (T p) (k .0 p)))
+        (joined-beyond (joined s t) (both .map-bytes) u ∙ joined-beyond s (holds-s .map-bytes) t ∙ sym (joined-beyond s (holds-s .map-bytes) (joined t u)))
 
   module _ (s : Reception) (m : Made number l file s) where
     -- joined with itself
@@ -272,11 +281,11 @@ module _ (number l : ℕ) (file : List ℕ) (ok : wrongLength l ≡ false) where
         (joined-beyond s (h .1 .map-bytes) s)
 
     -- a fresh reception is neutral on both sides
-    module _ (map buffer : List ℕ) (bytes : AllBytes map) (room : shortSpace l map buffer ≡ false) where
+    module _ (map buffer : List ℕ) (bytes : AllBytes map) (opens : opening l map buffer ≡ accepted tt) where
       pub fresh-second : joined s (opened number l map buffer) ≡ s
       fresh-second =
           let h = made-holds s m in
-          let none = opened-holds number l file map buffer room bytes in
+          let none = opened-holds number l file map buffer (opens-only-if l map buffer opens .1) bytes in
           all-of-it (joined s (opened number l map buffer)) s
           (same-reception number l file (λ p. h .0 p || false) (h .0) (joined s (opened number l map buffer)) s
           (joined-holds number l file ok (h .0) (λ p. false) s (opened number l map buffer) (h .1) none) (h .1) (λ p _. or-false (h .0 p)))
@@ -285,7 +294,7 @@ module _ (number l : ℕ) (file : List ℕ) (ok : wrongLength l ≡ false) where
       pub fresh-first : itself (joined (opened number l map buffer) s) ≡ itself s
       fresh-first =
           let h = made-holds s m in
-          let none = opened-holds number l file map buffer room bytes in
+          let none = opened-holds number l file map buffer (opens-only-if l map buffer opens .1) bytes in
           same-reception number l file (h .0) (h .0) (joined (opened number l map buffer) s) s
           (joined-holds number l file ok (λ p. false) (h .0) (opened number l map buffer) s none (h .1)) (h .1) (λ p _. refl)
 

@@ -10,11 +10,11 @@ use borrow.Author.Tests.{eq-eqb, ne-eqb, le-leb, lt-leb, le-ltb, lt-ltb}
 use Rattle.reason.specs.Answer.{accepted, refused, leaving}
 use Rattle.reason.specs.declared.Outcome.the-variants.{Accepted, Refused}
 use Rattle.reason.specs.Order.{check, firstOf}
-use Rattle.reason.proofs.OrderLaws.{skip, stop, none-left}
+use Rattle.reason.proofs.OrderLaws.{accepted-only-if, skip, stop, none-left}
 use Rattle.positions.specs.Map.{mapSize}
 use Rattle.reception.specs.Reception.{Reception, Piece, wrongLength, shortSpace}
 use Rattle.reception.specs.Adding.{ofPiece, ofReception, agrees, newIn}
-use Rattle.reception.specs.Opening.{cleared, opening, Opens}
+use Rattle.reception.specs.Opening.{cleared, openingChecks, opening, Opens}
 use Rattle.reception.specs.Taking.{taking}
 use Rattle.reception.specs.Joining.{joining}
 use Rattle.reception.specs.Holes.{holeStart, holeFrom}
@@ -34,6 +34,11 @@ module _ (l : ℕ) (map buffer : List ℕ) where
     pub opens : shortSpace l map buffer ≡ false → opening l map buffer ≡ accepted tt
     unfolding opening
     opens e = skip 7 _ _ right ∙ skip 12 _ _ e ∙ none-left tt
+
+-- what an accepted opening says
+pub opens-only-if : (l : ℕ) (map buffer : List ℕ) → opening l map buffer ≡ accepted tt → (wrongLength l ≡ false) × (shortSpace l map buffer ≡ false)
+unfolding opening
+opens-only-if l map buffer e = let w = accepted-only-if (openingChecks l map buffer) tt tt e .0 in (w .0, w .1 .0)
 
 -- .. and how `open` meets its promise
 module _ (l : ℕ) (map buffer : List ℕ) where

@@ -1,23 +1,22 @@
 -- Stations that collect one file, and the receptions that they make (demand 3).
 -- Assumes nothing.
 use mathlib.Core.Path.{_≡_}
-use mathlib.Core.Bool.{false}
 use mathlib.Core.List.{List}
 use Prim.Native.Nat.{ℕ}
+use Rattle.reason.specs.Answer.{accepted}
 use Rattle.octets.specs.Numbers.{AllBytes}
-use Rattle.reception.specs.Reception.{Reception, Piece, shortSpace}
-use Rattle.reception.specs.Opening.{opened}
-use Rattle.reception.specs.Taking.{taken}
+use Rattle.reception.specs.Reception.{Reception, Piece}
+use Rattle.reception.specs.Opening.{opening, opened}
 use Rattle.reception.specs.Joining.{joined}
 use Rattle.reception.specs.Sequences.{takenAll, AllAgree}
 
--- A station: the map and the buffer that it was lent, long enough for the file, and the pieces that it takes in, of which every
--- one that fits agrees with the file. Loss, repeats and order are free.
+-- A station: the map and the buffer that it was lent, in which the file opens, and the pieces that it takes in, of which every one
+-- that fits agrees with the file. Loss, repeats and order are free.
 pub record Station (number l : ℕ) (file : List ℕ) : Type 0 where
   pub map : List ℕ
   pub buffer : List ℕ
   pub bytes : AllBytes map
-  pub room : shortSpace l map buffer ≡ false
+  pub opens : opening l map buffer ≡ accepted tt
   pub pieces : List Piece
   pub agree : AllAgree number l file pieces
 

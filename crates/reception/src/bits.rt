@@ -11,12 +11,20 @@ ghost use Rattle.reception.specs.Reception.{longest};
 ghost use Rattle.reception.specs.Holes.{holeStart};
 ghost use Rattle.reception.specs.Inner.{onSide, sideOf};
 
+// Whether a bit of a byte is set.
+pub(crate) fn is_set(b: u8, k: usize) -> bool
+    requires { ⌜ k < 8 ⌝ }
+    ensures { λ r. ⌜ r ≡ isSet b k ⌝ }
+{
+    (b >> k) & 1 == 1
+}
+
 // Whether position p is held.
 pub(crate) fn test(map: &[u8], p: usize) -> bool
     requires { ⌜ p / 8 < length (now map) ⌝ }
     ensures { λ r. ⌜ r ≡ held (now (map .entry)) p ⌝ }
 {
-    (map[p / 8] >> (p % 8)) & 1 == 1
+    is_set(map[p / 8], p % 8)
 }
 
 // Position p becomes held.

@@ -17,20 +17,12 @@ fn byte_end(from: usize, n: usize) -> usize
     if from + 8 <= n { from + 8 } else { n }
 }
 
-// Whether a bit of a byte is set.
-fn is_set(b: u8, k: usize) -> bool
-    requires { ⌜ k < 8 ⌝ }
-    ensures { λ r. ⌜ r ≡ isSet b k ⌝ }
-{
-    (b >> k) & 1 == 1
-}
-
 // Whether position p, where its bit in `both` is set, has the same byte in both buffers.
 fn agrees_at(both: u8, buffer: &[u8], bytes: &[u8], from: usize, p: usize) -> bool
     requires { ⌜ (from ≤ p) × (p < from + 8) × (p < length (now buffer)) × (p < length (now bytes)) ⌝ }
     ensures { λ r. ⌜ r ≡ bytesAgree both (now (buffer .entry)) (now (bytes .entry)) from p ⌝ }
 {
-    if !is_set(both, p - from) {
+    if !bits::is_set(both, p - from) {
         return true;
     }
     buffer[p] == bytes[p]
@@ -89,7 +81,7 @@ fn copy_at(buffer: &mut [u8], bytes: &[u8], new: u8, from: usize, p: usize)
     requires { ⌜ (from ≤ p) × (p < from + 8) × (p < length (now buffer)) × (p < length (now bytes)) ⌝ }
     ensures { λ _. ⌜ BufferRun (λ q. isSet new (q - from)) (now (bytes .entry)) (now (buffer .entry)) p 1 (now (buffer .exit)) ⌝ }
 {
-    if is_set(new, p - from) {
+    if bits::is_set(new, p - from) {
         buffer[p] = bytes[p];
     }
 }

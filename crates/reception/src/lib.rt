@@ -105,28 +105,28 @@ pub fn join(
     length: u32,
     map: &mut [u8],
     buffer: &mut [u8],
-    other_number: u32,
-    other_length: u32,
-    other_map: &[u8],
-    other_buffer: &[u8],
+    second_number: u32,
+    second_length: u32,
+    second_map: &[u8],
+    second_buffer: &[u8],
 ) -> Added
     ensures { λ r. ⌜ Joins (record { number = number; length = length; map = now (map .entry); buffer = now (buffer .entry) })
-        (record { number = «other_number»; length = «other_length»; map = now («other_map» .entry); buffer = now («other_buffer» .entry) }) r (now (map .exit)) (now (buffer .exit)) ⌝ }
+        (record { number = «second_number»; length = «second_length»; map = now («second_map» .entry); buffer = now («second_buffer» .entry) }) r (now (map .exit)) (now (buffer .exit)) ⌝ }
 {
-    if space::wrong_length(length) | space::wrong_length(other_length) {
+    if space::wrong_length(length) | space::wrong_length(second_length) {
         return Added::Refused(7);
     }
-    if space::short(length, map, buffer) | space::short(other_length, other_map, other_buffer) {
+    if space::short(length, map, buffer) | space::short(second_length, second_map, second_buffer) {
         return Added::Refused(12);
     }
-    if !((number == other_number) & (length == other_length)) {
+    if !((number == second_number) & (length == second_length)) {
         return Added::Refused(9);
     }
     let l = length as usize;
-    if !joins::agree(map, buffer, other_map, other_buffer, l) {
+    if !joins::agree(map, buffer, second_map, second_buffer, l) {
         return Added::Refused(11);
     }
-    Added::Accepted(joins::add(map, buffer, other_map, other_buffer, l))
+    Added::Accepted(joins::add(map, buffer, second_map, second_buffer, l))
 }
 
 // The first hole that starts at the place or later; refuses 7, 12 (the map's), 15. Asked from 0 and then

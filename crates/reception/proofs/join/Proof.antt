@@ -45,7 +45,7 @@ abbrev s : tie.Start → Reception
 s c = record { number = c .args .number; length = c .args .length; map = c .args .map .now; buffer = c .args .buffer .now }
 
 abbrev t : tie.Start → Reception
-t c = record { number = c .args .other-number; length = c .args .other-length; map = c .args .other-map .now; buffer = c .args .other-buffer .now }
+t c = record { number = c .args .second-number; length = c .args .second-length; map = c .args .second-map .now; buffer = c .args .second-buffer .now }
 
 refuses : (c : tie.Start) (n : ℕ) → joining (s c) (t c) ≡ refused n → Adds (s c) (ofReception (t c)) (joining (s c) (t c)) (Refused n) (s c .map) (s c .buffer)
 refuses c n e = adds-refused (s c) (ofReception (t c)) (joining (s c) (t c)) (s c .map) (s c .buffer) n e refl refl
@@ -68,7 +68,7 @@ same-length-2 c = search needs
 abbrev S : tie.Else1 → tie.Start
 S c = c .before .before .before .before .before .before .before
 
-right : (c : tie.Else1) → (wrongLength (S c .args .length) || wrongLength (S c .args .other-length)) ≡ false
+right : (c : tie.Else1) → (wrongLength (S c .args .length) || wrongLength (S c .args .second-length)) ≡ false
 right c = sym (ap₂ _||_ (c .before .before .wrong-length .ensures) (c .before .wrong-length2 .ensures)) ∙ c .if1 .left
 
 returns-2 : tie.Need-returns-2
@@ -84,7 +84,7 @@ abbrev D : tie.Else2 → tie.Else1
 D c = c .before .before .before .before .before
 
 room : (c : tie.Else2)
-    → (shortSpace (S (D c) .args .length) (S (D c) .args .map .now) (S (D c) .args .buffer .now) || shortSpace (S (D c) .args .other-length) (S (D c) .args .other-map .now) (S (D c) .args .other-buffer .now)) ≡ false
+    → (shortSpace (S (D c) .args .length) (S (D c) .args .map .now) (S (D c) .args .buffer .now) || shortSpace (S (D c) .args .second-length) (S (D c) .args .second-map .now) (S (D c) .args .second-buffer .now)) ≡ false
 room c = sym (ap₂ _||_ (c .before .before .short .ensures) (c .before .short2 .ensures)) ∙ c .if2 .left
 
 returns-3 : tie.Need-returns-3
@@ -93,20 +93,20 @@ returns-3 c = let e = c .before in let d = D e in refuses (S d) 9 (joins-9 (s (S
 abbrev T : tie.Else3 → tie.Start
 T c = S (D (c .before))
 
-same : (c : tie.Else3) → (eqb (T c .args .number) (T c .args .other-number) && eqb (T c .args .length) (T c .args .other-length)) ≡ true
+same : (c : tie.Else3) → (eqb (T c .args .number) (T c .args .second-number) && eqb (T c .args .length) (T c .args .second-length)) ≡ true
 same c = not-false _ (c .if3 .left)
 
-lengths : (c : tie.Else3) → T c .args .length ≡ T c .args .other-length
-lengths c = eqb-true (T c .args .length) (T c .args .other-length) (and-right (eqb (T c .args .number) (T c .args .other-number)) (eqb (T c .args .length) (T c .args .other-length)) (same c))
+lengths : (c : tie.Else3) → T c .args .length ≡ T c .args .second-length
+lengths c = eqb-true (T c .args .length) (T c .args .second-length) (and-right (eqb (T c .args .number) (T c .args .second-number)) (eqb (T c .args .length) (T c .args .second-length)) (same c))
 
 -- room for the first's length in both
 enough : (c : tie.Else3)
-    → (T c .args .length ≤ longest) × (mapSize (T c .args .length) ≤ length (T c .args .map .now)) × (T c .args .length ≤ length (T c .args .buffer .now)) × (mapSize (T c .args .length) ≤ length (T c .args .other-map .now)) × (T c .args .length ≤ length (T c .args .other-buffer .now))
+    → (T c .args .length ≤ longest) × (mapSize (T c .args .length) ≤ length (T c .args .map .now)) × (T c .args .length ≤ length (T c .args .buffer .now)) × (mapSize (T c .args .length) ≤ length (T c .args .second-map .now)) × (T c .args .length ≤ length (T c .args .second-buffer .now))
 enough c =
     let r = or-none (wrongLength (T c .args .length)) _ (right (D (c .before))) in
     let f = or-none (shortSpace (T c .args .length) (T c .args .map .now) (T c .args .buffer .now)) _ (room (c .before)) in
     let first = enough-space (T c .args .length) (T c .args .map .now) (T c .args .buffer .now) (f .0) in
-    let second = enough-space (T c .args .other-length) (T c .args .other-map .now) (T c .args .other-buffer .now) (f .1) in
+    let second = enough-space (T c .args .second-length) (T c .args .second-map .now) (T c .args .second-buffer .now) (f .1) in
     let l = right-length (T c .args .length) (r .0) in
     let e = lengths c in
     (l .1, first .0, first .1, omega (arith, e, second), omega (arith, e, second))

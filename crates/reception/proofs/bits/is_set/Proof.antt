@@ -1,10 +1,10 @@
--- `reception::joins::is_set` meets its contract: the shift and the mask give the bit.
+-- `reception::bits::is_set` meets its contract: the shift and the mask give the bit.
 -- Assumes nothing.
 use borrow.Author.Needs.{needs}
 use Rattle.positions.specs.Map.{bit}
 use Rattle.positions.proofs.BitLaws.{and-one}
-use Rattle.reception.proofs.joins.is_set.Statement.{statement}
-use Rattle.reception.proofs.joins.is_set.Tie as tie
+use Rattle.reception.proofs.bits.is_set.Statement.{statement}
+use Rattle.reception.proofs.bits.is_set.Tie as tie
 
 cast-result : tie.Need-cast-result
 cast-result c = search needs
