@@ -16,7 +16,7 @@ use Rattle.octets.specs.Numbers.{byteAt, AllBytes}
 use Rattle.octets.proofs.ValueLaws.{value-at, values-long}
 use Rattle.positions.specs.Spans.{within, count}
 use Rattle.positions.specs.Map.{held, mapSize}
-use Rattle.positions.proofs.SpanLaws.{in-span, behind-span, span-low, span-high, all-if, count-same}
+use Rattle.positions.proofs.SpanLaws.{in-span, span-low, span-high, all-if, count-same}
 use Rattle.positions.proofs.MapLaws.{empty-byte, same-byte, map-long, map-bytes, held-map}
 use Rattle.reception.specs.Reception.{Reception, Piece, wrongLength, shortSpace}
 use Rattle.reception.specs.Adding.{Offer, ofPiece, ofReception, offered, agreesAt, agrees, isNew, newIn, after}
@@ -25,7 +25,7 @@ use Rattle.reception.specs.Taking.{taking, taken}
 use Rattle.reception.specs.Joining.{joining, joined}
 use Rattle.reception.specs.Sequences.{fits, covers, AgreesWith}
 use Rattle.reception.specs.Contents.{HoldsOf, itself}
-use Rattle.reception.proofs.OfferLaws.{enough-space}
+use Rattle.reception.proofs.OfferLaws.{enough-space, piece-below, second-below}
 use Rattle.reception.proofs.GivenReasons.{takes-9, takes-10, takes, joins}
 
 -- ---- a reception is determined by what it holds
@@ -183,7 +183,7 @@ module _ (number l : ℕ) (file : List ℕ) (ok : wrongLength l ≡ false) (S : 
     ends-inside = fits-inside number l x fit
 
     below-end : (p : ℕ) → l ≤ p → offered (ofPiece x) p ≡ false
-    below-end p k = let e = ends-inside in all-offered p ∙ behind-span (x .offset) (length (x .bytes)) p (omega (arith, e))
+    below-end p k = piece-below x l p ends-inside k
 
     file-bytes : (p : ℕ) → offered (ofPiece x) p ≡ true → byteAt (x .bytes) (p - x .offset) ≡ byteAt file p
     file-bytes p e =
@@ -234,7 +234,7 @@ module _ (number l : ℕ) (file : List ℕ) (ok : wrongLength l ≡ false) (S : 
 -- ---- joining
 module _ (number l : ℕ) (file : List ℕ) (ok : wrongLength l ≡ false) (S T : ℕ → Bool) (s t : Reception) (h : HoldsOf number l file S s) (k : HoldsOf number l file T t) where
   below-length : (p : ℕ) → l ≤ p → offered (ofReception t) p ≡ false
-  below-length p g = let e = k .sized in ap (λ (b : Bool). b && held (t .map) p) (behind-span 0 (t .length) p (omega (arith, e)))
+  below-length p g = let e = k .sized in second-below t p (omega (arith, e))
 
   inside-span : (p : ℕ) → p < l → within 0 (t .length) p ≡ true
   inside-span p g = let e = k .sized in in-span 0 (t .length) p (omega arith) (omega (arith, e))

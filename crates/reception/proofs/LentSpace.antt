@@ -1,9 +1,9 @@
 -- Lent space beyond the file never changes: not by opening, not by taking a piece in, not by joining.
 -- Assumes nothing.
 use mathlib.Core.Path.{_≡_, refl, sym, ap, ap₂, _∙_}
-use mathlib.Core.Bool.{Bool, true, false, cond, not, _&&_, _||_, or-false}
+use mathlib.Core.Bool.{Bool, true, false, cond, not, _&&_, _||_}
 use mathlib.Core.List.{List, _++_}
-use Prim.Native.Nat.{ℕ, _+_, _-_, _*_, _≤_, _<_}
+use Prim.Native.Nat.{ℕ, _+_, _-_, _*_, _≤_}
 use native.Mathlib.Omega.{arith}
 use lib.Dec.{eqb}
 use lib.ListN.{length, drop, replicate, length-replicate, length-drop, take-append-drop}
@@ -16,14 +16,14 @@ use Rattle.octets.specs.Numbers.{byteAt, AllBytes}
 use Rattle.octets.proofs.ValueLaws.{value-at, values-long}
 use Rattle.positions.specs.Spans.{within}
 use Rattle.positions.specs.Map.{held, mapSize}
-use Rattle.positions.proofs.SpanLaws.{behind-span}
-use Rattle.positions.proofs.MapLaws.{same-byte, map-long, map-bytes, held-map}
+use Rattle.positions.proofs.MapLaws.{same-byte, map-long, map-bytes}
 use Rattle.reception.specs.Reception.{Reception, Piece}
 use Rattle.reception.specs.Adding.{Offer, ofPiece, ofReception, offered, isNew, newIn, mapWith, bufferWith, after}
 use Rattle.reception.specs.Opening.{cleared, opened}
 use Rattle.reception.specs.Taking.{takingChecks, taking, taken}
 use Rattle.reception.specs.Joining.{joiningChecks, joining, joined}
 use Rattle.reception.specs.Contents.{itself, Beyond, beyond}
+use Rattle.reception.proofs.OfferLaws.{piece-below, second-below, held-elsewhere}
 
 -- a reception and what lies beyond it are all that is lent
 pub all-of-it : (s t : Reception) → itself s ≡ itself t → beyond s ≡ beyond t → s ≡ t
@@ -57,12 +57,6 @@ not-new true h a e = ap (λ (b : Bool). b && not a) e
 not-new false h a e = refl
 
 module _ (s : Reception) (o : Offer) (all : AllBytes (s .map)) (inside : (p : ℕ) → s .length ≤ p → offered o p ≡ false) where
-  held-same : (p : ℕ) → p < length (s .map) * 8 → s .length ≤ p → held (mapWith s o) p ≡ held (s .map) p
-  held-same p h g =
-      held-map (λ q. held (s .map) q || offered o q) (length (s .map)) p h
-      ∙ ap (λ (b : Bool). held (s .map) p || b) (inside p g)
-      ∙ or-false (held (s .map) p)
-
   map-beyond : drop (mapSize (s .length)) (mapWith s o) ≡ drop (mapSize (s .length)) (s .map)
   map-beyond =
       let k = mapSize (s .length) in
@@ -71,7 +65,7 @@ module _ (s : Reception) (o : Offer) (all : AllBytes (s .map)) (inside : (p : �
       let c = map-long (λ q. held (s .map) q || offered o q) (length (s .map)) in
       ext-getD 0 (drop k (mapWith s o)) (drop k (s .map)) (a ∙ ap (λ (n : ℕ). n - k) c ∙ sym b)
       (λ i h. getD-drop k (mapWith s o) i 0
-      ∙ same-byte (mapWith s o) (s .map) (k + i) (map-bytes (λ q. held (s .map) q || offered o q) (length (s .map))) all (λ j g. held-same ((k + i) * 8 + j) (omega (arith, a, c, h, g)) (omega arith))
+      ∙ same-byte (mapWith s o) (s .map) (k + i) (map-bytes (λ q. held (s .map) q || offered o q) (length (s .map))) all (λ j g. held-elsewhere s o ((k + i) * 8 + j) (omega (arith, a, c, h, g)) (inside ((k + i) * 8 + j) (omega arith)))
       ∙ sym (getD-drop k (s .map) i 0))
 
   buffer-beyond : drop (s .length) (bufferWith s o) ≡ drop (s .length) (s .buffer)
@@ -108,7 +102,7 @@ module _ (s : Reception) (all : AllBytes (s .map)) where
   take-by x (refused n) e = refl
   take-by x (accepted n) e =
       let k = taken-ends s x n e in
-      added-beyond s (ofPiece x) all (λ p g. ap (λ (w : Bool). w && true) (behind-span (x .offset) (length (x .bytes)) p (omega (arith, k)))) n
+      added-beyond s (ofPiece x) all (λ p g. piece-below x (s .length) p k g) n
 
   pub taken-beyond : (x : Piece) → beyond (taken s x) ≡ beyond s
   taken-beyond x = take-by x (taking s x) refl
@@ -117,7 +111,7 @@ module _ (s : Reception) (all : AllBytes (s .map)) where
   join-by t (refused n) e = refl
   join-by t (accepted n) e =
       let k = joined-lengths s t n e in
-      added-beyond s (ofReception t) all (λ p g. ap (λ (w : Bool). w && held (t .map) p) (behind-span 0 (t .length) p (omega (arith, k)))) n
+      added-beyond s (ofReception t) all (λ p g. second-below t p (omega (arith, k, g))) n
 
   pub joined-beyond : (t : Reception) → beyond (joined s t) ≡ beyond s
   joined-beyond t = join-by t (joining s t) refl

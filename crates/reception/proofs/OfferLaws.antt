@@ -1,9 +1,9 @@
 -- How adding an offer meets its promise: refused, or accepted with the map and the buffer of the definition.
 -- Assumes nothing.
 use mathlib.Core.Path.{_≡_, refl, sym, ap, _∙_}
-use mathlib.Core.Bool.{Bool, true, false, cond, not, _&&_, _||_, and-true}
+use mathlib.Core.Bool.{Bool, true, false, cond, not, _&&_, _||_, and-true, or-false}
 use mathlib.Core.List.{List}
-use Prim.Native.Nat.{ℕ, _+_, _-_, _≤_, _<_}
+use Prim.Native.Nat.{ℕ, _+_, _-_, _*_, _≤_, _<_}
 use native.Mathlib.Omega.{arith}
 use lib.Dec.{eqb, leb, ltb}
 use lib.ListN.{length}
@@ -19,8 +19,9 @@ use Rattle.octets.proofs.RunLaws.{put-before, put-within, put-after, put-length
 use Rattle.positions.specs.Spans.{within, every}
 use Rattle.positions.specs.Map.{held, mapSize}
 use Rattle.positions.proofs.SpanLaws.{in-span, before-span, behind-span, by-span, every-same, all-at}
+use Rattle.positions.proofs.MapLaws.{held-map}
 use Rattle.reception.specs.Reception.{Reception, Piece, longest, wrongLength, shortMap, shortSpace}
-use Rattle.reception.specs.Adding.{Offer, ofPiece, agreesAt, agrees, isNew, mapWith, bufferWith, Adds}
+use Rattle.reception.specs.Adding.{Offer, ofPiece, ofReception, offered, agreesAt, agrees, isNew, mapWith, bufferWith, Adds}
 use Rattle.reception.specs.Inner.{pieceAgrees, BufferRun}
 use Rattle.reception.specs.declared.Added.the-variants.{Accepted, Refused}
 
@@ -40,6 +41,19 @@ module _ (s : Reception) (o : Offer) (answer : Answer ℕ) (map buffer : List �
 
   pub adds-accepted : (n : ℕ) → answer ≡ accepted n → map ≡ mapWith s o → buffer ≡ bufferWith s o → Adds s o answer (Accepted n) map buffer
   adds-accepted n e m b = rw e record { answers = refl; leaves-map = m; leaves-buffer = b }
+
+-- ---- what is not offered, and what it leaves
+pub piece-below : (x : Piece) (l p : ℕ) → x .offset + length (x .bytes) ≤ l → l ≤ p → offered (ofPiece x) p ≡ false
+piece-below x l p ends g = ap (λ (w : Bool). w && true) (behind-span (x .offset) (length (x .bytes)) p (omega arith))
+
+pub second-below : (t : Reception) (p : ℕ) → t .length ≤ p → offered (ofReception t) p ≡ false
+second-below t p g = ap (λ (w : Bool). w && held (t .map) p) (behind-span 0 (t .length) p (omega arith))
+
+pub held-elsewhere : (s : Reception) (o : Offer) (p : ℕ) → p < length (s .map) * 8 → offered o p ≡ false → held (mapWith s o) p ≡ held (s .map) p
+held-elsewhere s o p h e =
+    held-map (λ q. held (s .map) q || offered o q) (length (s .map)) p h
+    ∙ ap (λ (b : Bool). held (s .map) p || b) e
+    ∙ or-false (held (s .map) p)
 
 -- ---- the buffer, by each of its bytes
 pub buffer-is : (f : ℕ → ℕ) (b b′ : List ℕ) → length b′ ≡ length b → ((p : ℕ) → p < length b → byteAt b′ p ≡ f p) → b′ ≡ valuesFrom f 0 (length b)

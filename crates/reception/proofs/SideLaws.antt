@@ -9,7 +9,7 @@ use native.Mathlib.Omega.{arith}
 use Rattle.reason.proofs.Bools.{le-or-lt}
 use Rattle.octets.specs.Numbers.{byteAt, AllBytes}
 use Rattle.positions.specs.Spans.{first}
-use Rattle.positions.specs.Map.{isSet, held}
+use Rattle.positions.specs.Map.{isSet}
 use Rattle.positions.proofs.BitLaws.{set-not, set-shr, set-high}
 use Rattle.positions.proofs.SpanLaws.{passed-over, found, first-is}
 use Rattle.positions.proofs.MapLaws.{held-by}

@@ -1,7 +1,7 @@
 -- Spare bits, set or clear, change no answer and no other byte, and taking and joining leave them.
 -- Assumes nothing.
 use mathlib.Core.Path.{_≡_, refl, sym, ap, ap₂, _∙_}
-use mathlib.Core.Bool.{Bool, true, false, cond, not, _&&_, _||_, or-false}
+use mathlib.Core.Bool.{Bool, true, false, cond, not, _&&_, _||_}
 use mathlib.Core.Logic.{⊎-elim}
 use mathlib.Core.List.{List, [], _∷_}
 use Prim.Native.Nat.{ℕ, zero, suc, _+_, _-_, _*_, _≤_, _<_}
@@ -15,7 +15,7 @@ use Rattle.reason.proofs.Bools.{and-right, le-or-lt}
 use Rattle.reason.proofs.OrderLaws.{cut-off}
 use Rattle.octets.specs.Numbers.{byteAt}
 use Rattle.octets.proofs.ValueLaws.{values-same}
-use Rattle.positions.specs.Spans.{within, first}
+use Rattle.positions.specs.Spans.{within}
 use Rattle.positions.specs.Map.{held, mapSize}
 use Rattle.positions.proofs.SpanLaws.{before-span, behind-span, by-span, every-same, count-same, first-same}
 use Rattle.positions.proofs.MapLaws.{map-long, held-map, held-past}
@@ -27,6 +27,7 @@ use Rattle.reception.specs.Holes.{heldBefore, startsHole, holeStart, hol
 use Rattle.reception.specs.Listing.{listing}
 use Rattle.reception.specs.Held.{heldOf, heldCount}
 use Rattle.reception.specs.Spare.{SameBelow, withMap}
+use Rattle.reception.proofs.OfferLaws.{piece-below, second-below, held-elsewhere}
 use Rattle.reception.proofs.LentSpace.{taken-ends, joined-lengths}
 
 -- ---- the same offer, or one that has the same below l, to maps that are the same below l
@@ -150,19 +151,16 @@ module _ (s t : Reception) (map map′ : List ℕ) (below : SameBelow (s .length
 
 -- ---- taking and joining leave them
 module _ (s : Reception) (p : ℕ) (spare : s .length ≤ p) (h : p < length (s .map) * 8) where
-  left : (o : Offer) → offered o p ≡ false → held (mapWith s o) p ≡ held (s .map) p
-  left o e = held-map (λ q. held (s .map) q || offered o q) (length (s .map)) p h ∙ ap (λ (b : Bool). held (s .map) p || b) e ∙ or-false (held (s .map) p)
-
   take-leaves : (x : Piece) (a : Answer ℕ) → taking s x ≡ a → held (after s (ofPiece x) a .map) p ≡ held (s .map) p
   take-leaves x (refused n) e = refl
-  take-leaves x (accepted n) e = let k = taken-ends s x n e in left (ofPiece x) (ap (λ (w : Bool). w && true) (behind-span (x .offset) (length (x .bytes)) p (omega (arith, k, spare))))
+  take-leaves x (accepted n) e = let k = taken-ends s x n e in held-elsewhere s (ofPiece x) p h (piece-below x (s .length) p k spare)
 
   pub taking-leaves : (x : Piece) → held (taken s x .map) p ≡ held (s .map) p
   taking-leaves x = take-leaves x (taking s x) refl
 
   join-leaves : (t : Reception) (a : Answer ℕ) → joining s t ≡ a → held (after s (ofReception t) a .map) p ≡ held (s .map) p
   join-leaves t (refused n) e = refl
-  join-leaves t (accepted n) e = let k = joined-lengths s t n e in left (ofReception t) (ap (λ (w : Bool). w && held (t .map) p) (behind-span 0 (t .length) p (omega (arith, k, spare))))
+  join-leaves t (accepted n) e = let k = joined-lengths s t n e in held-elsewhere s (ofReception t) p h (second-below t p (omega (arith, k, spare)))
 
   pub joining-leaves : (t : Reception) → held (joined s t .map) p ≡ held (s .map) p
   joining-leaves t = join-leaves t (joining s t) refl
