@@ -89,7 +89,8 @@ low-by false x = omega arith
 pub bits-below : (test : ℕ → Bool) (p n : ℕ) → bitsFrom test p n < 2 ^ n
 unfolding bitsFrom
 bits-below test p zero = omega arith
-bits-below test p (suc n) = subst (λ (x : ℕ). cond (test p) 1 0 + 2 * bitsFrom test (suc p) n < x) (sym (pow-suc 2 n)) (by (test p) (bits-below test (suc p) n))
+bits-below test p (suc n) =
+    subst (λ (x : ℕ). cond (test p) 1 0 + 2 * bitsFrom test (suc p) n < x) (sym (pow-suc 2 n)) (by (test p) (bits-below test (suc p) n))
   where
     by : (b : Bool) → bitsFrom test (suc p) n < 2 ^ n → cond b 1 0 + 2 * bitsFrom test (suc p) n < 2 ^ n * 2
     by true h = omega arith
@@ -145,7 +146,8 @@ set-or a b k = ap (λ (x : ℕ). eqb x 1) (bit-or a b k) ∙ max-set (bit a k) (
 
 bit-and : (a b k : ℕ) → bit (bitAnd a b) k ≡ min (bit a k) (bit b k)
 unfolding bit
-bit-and a b k = ap (λ (x : ℕ). x % 2) (and-shr a b k ∙ and-step (a / 2 ^ k) (b / 2 ^ k)) ∙ digits-mod (bitAnd (a / 2 ^ k / 2) (b / 2 ^ k / 2)) (omega arith)
+bit-and a b k =
+    ap (λ (x : ℕ). x % 2) (and-shr a b k ∙ and-step (a / 2 ^ k) (b / 2 ^ k)) ∙ digits-mod (bitAnd (a / 2 ^ k / 2) (b / 2 ^ k / 2)) (omega arith)
 
 pub set-and : (a b k : ℕ) → isSet (bitAnd a b) k ≡ (isSet a k && isSet b k)
 set-and a b k = ap (λ (x : ℕ). eqb x 1) (bit-and a b k) ∙ min-set (bit a k) (bit b k) (bit-lt a k) (bit-lt b k)
@@ -171,10 +173,12 @@ set-high n b k h l = ap (λ (x : ℕ). eqb (x % 2) 1) (div-eq-of-lt (lt-of-lt-of
 
 -- the lowest n bits
 low-half : (b n : ℕ) → b % 2 ^ suc n / 2 ≡ b / 2 % 2 ^ n
-low-half b n = ap (λ (x : ℕ). b % x / 2) (pow-suc 2 n) ∙ ap (λ (x : ℕ). x / 2) (mod-mul b (pow-pos n) (omega arith)) ∙ digits-div (b / 2 % 2 ^ n) (omega arith)
+low-half b n =
+    ap (λ (x : ℕ). b % x / 2) (pow-suc 2 n) ∙ ap (λ (x : ℕ). x / 2) (mod-mul b (pow-pos n) (omega arith)) ∙ digits-div (b / 2 % 2 ^ n) (omega arith)
 
 low-digit : (b n : ℕ) → b % 2 ^ suc n % 2 ≡ b % 2
-low-digit b n = ap (λ (x : ℕ). b % x % 2) (pow-suc 2 n) ∙ ap (λ (x : ℕ). x % 2) (mod-mul b (pow-pos n) (omega arith)) ∙ digits-mod (b / 2 % 2 ^ n) (omega arith)
+low-digit b n =
+    ap (λ (x : ℕ). b % x % 2) (pow-suc 2 n) ∙ ap (λ (x : ℕ). x % 2) (mod-mul b (pow-pos n) (omega arith)) ∙ digits-mod (b / 2 % 2 ^ n) (omega arith)
 
 pub set-low : (n b k : ℕ) → k < n → isSet (b % 2 ^ n) k ≡ isSet b k
 set-low zero b k h = absurd (not-suc-le-zero h)

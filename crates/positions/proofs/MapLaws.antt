@@ -114,7 +114,8 @@ digit a b ha hb e =
       | no x ↦ let y = eqb-false b 1 (sym e ∙ ne-eqb a 1 x) in omega (arith, x, y)
     ]
 
-pub same-byte : (m n : List ℕ) (i : ℕ) → AllBytes m → AllBytes n → ((k : ℕ) → k < 8 → held m (i * 8 + k) ≡ held n (i * 8 + k)) → byteAt m i ≡ byteAt n i
+pub same-byte : (m n : List ℕ) (i : ℕ) → AllBytes m → AllBytes n → ((k : ℕ) → k < 8 → held m (i * 8 + k) ≡ held n (i * 8 + k))
+    → byteAt m i ≡ byteAt n i
 same-byte m n i bm bn e =
     bits-ext 8 (byteAt m i) (byteAt n i) (bm i) (bn i) (λ k l.
     digit (bit (byteAt m i) k) (bit (byteAt n i) k) (bit-lt (byteAt m i) k) (bit-lt (byteAt n i) k)

@@ -68,7 +68,8 @@ module _ (test : ℕ → Bool) where
   pub all-if : (p n : ℕ) → ((q : ℕ) → p ≤ q → q < p + n → test q ≡ true) → every test p n ≡ true
   unfolding every
   all-if p zero h = refl
-  all-if p (suc n) h = and-both (test p) (every test (suc p) n) (h p (omega arith) (omega arith)) (all-if (suc p) n (λ q l g. h q (omega arith) (omega arith)))
+  all-if p (suc n) h =
+      and-both (test p) (every test (suc p) n) (h p (omega arith) (omega arith)) (all-if (suc p) n (λ q l g. h q (omega arith) (omega arith)))
 
   pub all-at : (p n : ℕ) → every test p n ≡ true → (q : ℕ) → p ≤ q → q < p + n → test q ≡ true
   unfolding every
@@ -180,7 +181,8 @@ module _ (test : ℕ → Bool) where
   found p zero g = absurd (no-between (p + 0) p (omega arith) g)
   found p (suc n) g = by (test p) refl g (λ k. found (suc p) n k)
     where
-      by : (b : Bool) → test p ≡ b → cond b p (first test (suc p) n) < p + suc n → (first test (suc p) n < suc p + n → test (first test (suc p) n) ≡ true)
+      by : (b : Bool) → test p ≡ b → cond b p (first test (suc p) n) < p + suc n
+          → (first test (suc p) n < suc p + n → test (first test (suc p) n) ≡ true)
           → test (cond b p (first test (suc p) n)) ≡ true
       by true e k later = e
       by false e k later = later (omega arith)

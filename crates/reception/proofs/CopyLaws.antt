@@ -33,7 +33,8 @@ one-by new from b p q h there false e = getD-set-other b p q (byteAt from p) 0 (
 pub copy-one : (new : ℕ → Bool) (from b : List ℕ) (p : ℕ) → p < length b → new p ≡ true → BufferRun new from b p 1 (set b p (byteAt from p))
 copy-one new from b p h there = record {
   long = length-set b p (byteAt from p);
-  bytes = λ q _. one-by new from b p q h there (eqb q p) refl ∙ ap (λ (w : Bool). cond (w && new q) (byteAt from q) (byteAt b q)) (sym (span-one p q));
+  bytes =
+      λ q _. one-by new from b p q h there (eqb q p) refl ∙ ap (λ (w : Bool). cond (w && new q) (byteAt from q) (byteAt b q)) (sym (span-one p q));
 }
 
 -- a run behind another

@@ -50,7 +50,8 @@ held-by-one s x p h = by (taking s x)
         ∙ ap (λ (b : Bool). held (s .map) p || b) (and-true (within (x .offset) (length (x .bytes)) p))
     by (refused n) = sym (or-false (held (s .map) p))
 
-pub held-exactly : (s : Reception) (xs : List Piece) (p : ℕ) → p < length (s .map) * 8 → held (takenAll s xs .map) p ≡ (held (s .map) p || coveredIn s xs p)
+pub held-exactly : (s : Reception) (xs : List Piece) (p : ℕ) → p < length (s .map) * 8
+    → held (takenAll s xs .map) p ≡ (held (s .map) p || coveredIn s xs p)
 held-exactly s [] p h = sym (or-false (held (s .map) p))
 held-exactly s (x ∷ xs) p h =
     held-exactly (taken s x) xs p (let e = same-long s x in omega (arith, e, h))
@@ -70,26 +71,32 @@ module _ (number l : ℕ) (file : List ℕ) (ok : wrongLength l ≡ false) where
 
   -- a position is held exactly if a piece that fits covered it, held bytes are the file's, the others and the spare bits are zero
   pub station-holds : (a : Station number l file) → HoldsOf number l file (covered number l (a .pieces)) (receptionOf a)
-  station-holds a = after-pieces (a .pieces) (λ p. false) (opened number l (a .map) (a .buffer)) (opened-holds number l file (a .map) (a .buffer) (opens-only-if l (a .map) (a .buffer) (a .opens) .1) (a .bytes)) (a .agree)
+  station-holds a =
+      after-pieces (a .pieces) (λ p. false) (opened number l (a .map) (a .buffer))
+      (opened-holds number l file (a .map) (a .buffer) (opens-only-if l (a .map) (a .buffer) (a .opens) .1) (a .bytes)) (a .agree)
 
   -- what the accepted pieces cover is what the fitting pieces cover
-  accepted-by : (S : ℕ → Bool) (s : Reception) → HoldsOf number l file S s → (x : Piece) → (fits number l x ≡ true → AgreesWith file x) → (b : Bool) → fits number l x ≡ b
+  accepted-by : (S : ℕ → Bool) (s : Reception) → HoldsOf number l file S s → (x : Piece) → (fits number l x ≡ true → AgreesWith file x) → (b : Bool)
+      → fits number l x ≡ b
       → isAccepted (taking s x) ≡ b
   accepted-by S s h x agree true e = ap isAccepted (fitting-is-taken number l file ok S s h x e (agree e))
   accepted-by S s h x agree false e = ap isAccepted (unfitting-is-refused number l file ok S s h x e .1)
 
-  accepted-cover : (xs : List Piece) (S : ℕ → Bool) (s : Reception) → HoldsOf number l file S s → AllAgree number l file xs → (p : ℕ) → coveredIn s xs p ≡ covered number l xs p
+  accepted-cover : (xs : List Piece) (S : ℕ → Bool) (s : Reception) → HoldsOf number l file S s → AllAgree number l file xs → (p : ℕ)
+      → coveredIn s xs p ≡ covered number l xs p
   accepted-cover [] S s h a p = refl
   accepted-cover (x ∷ xs) S s h a p =
       ap₂ (λ (b c : Bool). b && within (x .offset) (length (x .bytes)) p || c) (accepted-by S s h x (a .0) (fits number l x) refl)
       (accepted-cover xs (λ q. S q || covers number l x q) (taken s x) (taken-holds number l file ok S s h x (a .0)) (a .1) p)
 
-  pub accepted-are-fitting : (a : Station number l file) (p : ℕ) → coveredIn (opened number l (a .map) (a .buffer)) (a .pieces) p ≡ covered number l (a .pieces) p
+  pub accepted-are-fitting : (a : Station number l file) (p : ℕ)
+      → coveredIn (opened number l (a .map) (a .buffer)) (a .pieces) p ≡ covered number l (a .pieces) p
   accepted-are-fitting a p =
       accepted-cover (a .pieces) (λ q. false) (opened number l (a .map) (a .buffer)) (opened-holds number l file (a .map) (a .buffer) (opens-only-if l (a .map) (a .buffer) (a .opens) .1) (a .bytes)) (a .agree) p
 
   -- in the words of the demand: a position is held exactly if an accepted piece covered it, held bytes are the file's, others zero
-  pub holds-the-accepted : (a : Station number l file) → HoldsOf number l file (coveredIn (opened number l (a .map) (a .buffer)) (a .pieces)) (receptionOf a)
+  pub holds-the-accepted : (a : Station number l file)
+      → HoldsOf number l file (coveredIn (opened number l (a .map) (a .buffer)) (a .pieces)) (receptionOf a)
   holds-the-accepted a =
       told number l file (covered number l (a .pieces)) (coveredIn (opened number l (a .map) (a .buffer)) (a .pieces)) (receptionOf a) (λ p. sym (accepted-are-fitting a p)) (station-holds a)
 
@@ -113,7 +120,8 @@ module _ (number l : ℕ) (file : List ℕ) (ok : wrongLength l ≡ false) where
       same-reception number l file (covered number l (a .pieces)) (covered number l (b .pieces)) (receptionOf a) (receptionOf b) (station-holds a) (station-holds b) (λ p _. same p)
 
   -- what lies beyond in the lent map and buffer is what lay there when they were lent
-  pieces-beyond : (xs : List Piece) (S : ℕ → Bool) (s : Reception) → HoldsOf number l file S s → AllAgree number l file xs → beyond (takenAll s xs) ≡ beyond s
+  pieces-beyond : (xs : List Piece) (S : ℕ → Bool) (s : Reception) → HoldsOf number l file S s → AllAgree number l file xs
+      → beyond (takenAll s xs) ≡ beyond s
   pieces-beyond [] S s h a = refl
   pieces-beyond (x ∷ xs) S s h a =
       pieces-beyond xs (λ p. S p || covers number l x p) (taken s x) (taken-holds number l file ok S s h x (a .0)) (a .1)
@@ -164,7 +172,9 @@ module _ (number l : ℕ) (file : List ℕ) (ok : wrongLength l ≡ false) where
   -- the count that is returned: the positions that only the second held
   pub join-counts : (a b : Station number l file)
       → joining (receptionOf a) (receptionOf b) ≡ accepted (count (λ p. covered number l (b .pieces) p && not (covered number l (a .pieces) p)) 0 l)
-  join-counts a b = join-accepted number l file ok (covered number l (a .pieces)) (covered number l (b .pieces)) (receptionOf a) (receptionOf b) (station-holds a) (station-holds b)
+  join-counts a b =
+      join-accepted number l file ok (covered number l (a .pieces)) (covered number l (b .pieces)) (receptionOf a) (receptionOf b) (station-holds a)
+      (station-holds b)
 
   -- ---- a repeat does not spoil a file
 
@@ -202,8 +212,10 @@ module _ (number l : ℕ) (file : List ℕ) (ok : wrongLength l ≡ false) where
       where
         by : (p : ℕ) (w : Bool) → within (x .offset) (length (x .bytes)) p ≡ w
             → (covered number l (a .pieces ++ (x ∷ [])) p || fits number l x && within (x .offset) (length (x .bytes)) p) ≡ covered number l (a .pieces ++ (x ∷ [])) p
-        by p true w = ap (λ (b : Bool). b || fits number l x && within (x .offset) (length (x .bytes)) p) (covered-already p w) ∙ sym (covered-already p w)
-        by p false w = ap₂ (λ (f v : Bool). covered number l (a .pieces ++ (x ∷ [])) p || f && v) fit w ∙ or-false (covered number l (a .pieces ++ (x ∷ [])) p)
+        by p true w =
+            ap (λ (b : Bool). b || fits number l x && within (x .offset) (length (x .bytes)) p) (covered-already p w) ∙ sym (covered-already p w)
+        by p false w =
+            ap₂ (λ (f v : Bool). covered number l (a .pieces ++ (x ∷ [])) p || f && v) fit w ∙ or-false (covered number l (a .pieces ++ (x ∷ [])) p)
 
   -- ---- the laws of joining, among all receptions of the file that are made in this way
 

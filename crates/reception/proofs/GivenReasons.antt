@@ -76,7 +76,11 @@ module _ (s : Reception) (x : Piece) where
       module _ (same : s .number ≡ x .number) where
         pub takes-10 : s .length < x .offset + length (x .bytes) → taking s x ≡ refused 10
         unfolding taking
-        takes-10 h = skip 7 _ _ right ∙ skip 12 _ _ room ∙ skip 9 _ _ (ap not (eq-eqb (s .number) (x .number) same)) ∙ stop 10 _ _ (lt-ltb (s .length) (x .offset + length (x .bytes)) h)
+        takes-10 h =
+            skip 7 _ _ right
+            ∙ skip 12 _ _ room
+            ∙ skip 9 _ _ (ap not (eq-eqb (s .number) (x .number) same))
+            ∙ stop 10 _ _ (lt-ltb (s .length) (x .offset + length (x .bytes)) h)
 
         module _ (fits : x .offset + length (x .bytes) ≤ s .length) where
           last : taking s x ≡ firstOf (check (not (agrees s (ofPiece x))) 11 ∷ []) (newIn s (ofPiece x))

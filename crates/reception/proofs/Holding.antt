@@ -30,7 +30,8 @@ use Rattle.reception.proofs.GivenReasons.{takes-9, takes-10, takes, joi
 
 -- ---- a reception is determined by what it holds
 module _ (number l : ℕ) (file : List ℕ) where
-  pub same-reception : (S T : ℕ → Bool) (s t : Reception) → HoldsOf number l file S s → HoldsOf number l file T t → ((p : ℕ) → p < mapSize l * 8 → S p ≡ T p) → itself s ≡ itself t
+  pub same-reception : (S T : ℕ → Bool) (s t : Reception) → HoldsOf number l file S s → HoldsOf number l file T t
+      → ((p : ℕ) → p < mapSize l * 8 → S p ≡ T p) → itself s ≡ itself t
   same-reception S T s t h k same =
       rw (h .sized, k .sized, h .numbered, k .numbered)
       (ap₂ (λ (m b : List ℕ). record { number = number; length = l; map = m; buffer = b }) maps buffers)
@@ -96,7 +97,8 @@ module _ (number l : ℕ) (file map buffer : List ℕ) (room : shortSpace l map 
   }
 
 -- ---- the same set, told otherwise
-pub told : (number l : ℕ) (file : List ℕ) (S T : ℕ → Bool) (s : Reception) → ((p : ℕ) → S p ≡ T p) → HoldsOf number l file S s → HoldsOf number l file T s
+pub told : (number l : ℕ) (file : List ℕ) (S T : ℕ → Bool) (s : Reception) → ((p : ℕ) → S p ≡ T p) → HoldsOf number l file S s
+    → HoldsOf number l file T s
 told number l file S T s e h = record {
   numbered = h .numbered;
   sized = h .sized;
@@ -147,11 +149,17 @@ module _ (number l : ℕ) (file : List ℕ) (S : ℕ → Bool) (s : Reception) (
         numbered = h .numbered;
         sized = h .sized;
         map-long = rw (map-long (λ p. held (s .map) p || offered o p) (length (s .map))) longer;
-        buffer-long = rw (values-long (λ p. cond (within (o .start) (o .size) p && isNew s o p) (o .byte p) (byteAt (s .buffer) p)) 0 (length (s .buffer))) (h .buffer-long);
+        buffer-long =
+            rw (values-long (λ p. cond (within (o .start) (o .size) p && isNew s o p) (o .byte p) (byteAt (s .buffer) p)) 0 (length (s .buffer)))
+            (h .buffer-long);
         map-bytes = map-bytes (λ p. held (s .map) p || offered o p) (length (s .map));
         below = λ p k. neither (S p) (offered o p) (h .below p k) (inside p k);
-        holds = λ p k. held-map (λ q. held (s .map) q || offered o q) (length (s .map)) p (omega (arith, longer)) ∙ ap (λ (b : Bool). b || offered o p) (h .holds p k);
-        bytes = λ p k. value-at (λ q. cond (within (o .start) (o .size) q && isNew s o q) (o .byte q) (byteAt (s .buffer) q)) 0 (length (s .buffer)) p (let g = h .buffer-long in omega (arith, g))
+        holds =
+            λ p k. held-map (λ q. held (s .map) q || offered o q) (length (s .map)) p (omega (arith, longer))
+            ∙ ap (λ (b : Bool). b || offered o p) (h .holds p k);
+        bytes =
+            λ p k. value-at (λ q. cond (within (o .start) (o .size) q && isNew s o q) (o .byte q) (byteAt (s .buffer) q)) 0 (length (s .buffer)) p
+            (let g = h .buffer-long in omega (arith, g))
             ∙ ap (λ (b : Bool). cond (within (o .start) (o .size) p && (o .has p && not b)) (o .byte p) (byteAt (s .buffer) p)) (h .holds p (omega arith))
             ∙ picked (within (o .start) (o .size) p) (o .has p) (S p) (o .byte p) (byteAt (s .buffer) p) (byteAt file p) (right p) (h .bytes p k);
       }
@@ -168,7 +176,8 @@ module _ (number l : ℕ) (file : List ℕ) (S : ℕ → Bool) (s : Reception) (
 
 -- ---- taking a piece in
 pub fits-inside : (number l : ℕ) (x : Piece) → fits number l x ≡ true → x .offset + length (x .bytes) ≤ l
-fits-inside number l x fit = leb-true (x .offset + length (x .bytes)) l (and-right (eqb number (x .number)) (leb (x .offset + length (x .bytes)) l) fit)
+fits-inside number l x fit =
+    leb-true (x .offset + length (x .bytes)) l (and-right (eqb number (x .number)) (leb (x .offset + length (x .bytes)) l) fit)
 
 module _ (number l : ℕ) (file : List ℕ) (ok : wrongLength l ≡ false) (S : ℕ → Bool) (s : Reception) (h : HoldsOf number l file S s) (x : Piece) where
   all-offered : (p : ℕ) → offered (ofPiece x) p ≡ within (x .offset) (length (x .bytes)) p
@@ -195,7 +204,8 @@ module _ (number l : ℕ) (file : List ℕ) (ok : wrongLength l ≡ false) (S : 
 
     pub fitting-is-taken : taking s x ≡ accepted (newIn s (ofPiece x))
     fitting-is-taken =
-        takes s x (length-right number l file S s h ok) (space-enough number l file S s h) same-number (let e = ends-inside in let f = h .sized in omega (arith, e, f))
+        takes s x (length-right number l file S s h ok) (space-enough number l file S s h) same-number (let e =
+        ends-inside in let f = h .sized in omega (arith, e, f))
         (offer-agrees number l file S s h (ofPiece x) below-end file-bytes)
 
     fitting-holds : HoldsOf number l file (λ p. S p || covers number l x p) (taken s x)
@@ -208,7 +218,11 @@ module _ (number l : ℕ) (file : List ℕ) (ok : wrongLength l ≡ false) (S : 
   -- a piece that does not fit
   module _ (unfit : fits number l x ≡ false) where
     by-number : (b : Bool) → eqb number (x .number) ≡ b → (n : ℕ) × (taking s x ≡ refused n)
-    by-number false e = (9, takes-9 s x (length-right number l file S s h ok) (space-enough number l file S s h) (λ d. eqb-false number (x .number) e (sym (h .numbered) ∙ d)))
+    by-number false e = (
+      9,
+      takes-9 s x (length-right number l file S s h ok) (space-enough number l file S s h)
+          (λ d. eqb-false number (x .number) e (sym (h .numbered) ∙ d)),
+    )
     by-number true e =
         let k = leb-false (x .offset + length (x .bytes)) l (sym (ap (λ (b : Bool). b && leb (x .offset + length (x .bytes)) l) e) ∙ unfit) in
         let f = h .sized in
@@ -224,7 +238,8 @@ module _ (number l : ℕ) (file : List ℕ) (ok : wrongLength l ≡ false) (S : 
         (λ p. sym (ap (λ (b : Bool). S p || (b && within (x .offset) (length (x .bytes)) p)) unfit ∙ or-false (S p))) h)
 
   -- a position is held after a piece exactly if it was before, or the piece fits and covers it
-  by-fit : (b : Bool) → fits number l x ≡ b → (fits number l x ≡ true → AgreesWith file x) → HoldsOf number l file (λ p. S p || covers number l x p) (taken s x)
+  by-fit : (b : Bool) → fits number l x ≡ b → (fits number l x ≡ true → AgreesWith file x)
+      → HoldsOf number l file (λ p. S p || covers number l x p) (taken s x)
   by-fit true e agree = fitting-holds e (agree e)
   by-fit false e agree = unfitting-holds e
 

@@ -164,7 +164,8 @@ module _ (l : ℕ) (map : List ℕ) where
 
   -- Where the answer is reason 15, no hole starts at the place or later.
   pub none-only-if : (place : ℕ) → listing l map place ≡ refused 15 → (hole : Hole) → IsHole l map hole → place ≤ hole .start → ⊥
-  none-only-if place e hole is from = no-between l (hole .start) (omega (arith, told-15 place e, found-first place hole is from)) (start-below hole is)
+  none-only-if place e hole is from =
+      no-between l (hole .start) (omega (arith, told-15 place e, found-first place hole is from)) (start-below hole is)
 
   -- ---- one question after the other
   -- What is listed are holes.
@@ -180,7 +181,8 @@ module _ (l : ℕ) (map : List ℕ) where
   next-behind hole next is e =
       hole-behind hole next is (hole-is (endOf hole) next e) (omega (arith, is .some, hole-first (endOf hole) next e .0))
 
-  ascending-from : (n place low : ℕ) → ((hole : Hole) → listing l map place ≡ accepted hole → low ≤ hole .start) → Ascending low (listedFrom n l map place)
+  ascending-from : (n place low : ℕ) → ((hole : Hole) → listing l map place ≡ accepted hole → low ≤ hole .start)
+      → Ascending low (listedFrom n l map place)
   ascending-from zero place low from = tt
   ascending-from (suc n) place low from =
       by-answer (Ascending low) (listing l map place) (λ hole. listedFrom n l map (endOf hole))

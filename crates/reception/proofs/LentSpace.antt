@@ -48,7 +48,8 @@ all-of-it s t e f =
 drop-cleared : (n : ℕ) (b : List ℕ) → drop n (cleared n b) ≡ drop n b
 drop-cleared n b = drop-at (replicate n 0) (drop n b) n (length-replicate n 0)
 
-pub opened-beyond : (number l : ℕ) (map buffer : List ℕ) → beyond (opened number l map buffer) ≡ record { map = drop (mapSize l) map; buffer = drop l buffer }
+pub opened-beyond : (number l : ℕ) (map buffer : List ℕ)
+    → beyond (opened number l map buffer) ≡ record { map = drop (mapSize l) map; buffer = drop l buffer }
 opened-beyond number l map buffer = ap₂ (λ (m b : List ℕ). record { map = m; buffer = b }) (drop-cleared (mapSize l) map) (drop-cleared l buffer)
 
 -- ---- an offer of positions of the file

@@ -71,7 +71,9 @@ module _ (m : List ℕ) (has : ℕ → Bool) (p n : ℕ) (m′ : List ℕ) (r : 
         ∙ ap (λ (a : Bool). a || within (p + n) k q && has q) (run .holds q h)
         ∙ apart (held m q) (within p n q) (within (p + n) k q) (has q)
         ∙ ap (λ (w : Bool). held m q || w && has q) (span-join p n k q);
-    new = ap₂ (λ (x y : ℕ). x + y) (run .new) (next .new ∙ count-same (λ q. has q && not (held m′ q)) (λ q. has q && not (held m q)) (p + n) k (λ q l g. ap (λ (a : Bool). has q && not a) (later-same q l)))
+    new =
+        ap₂ (λ (x y : ℕ). x + y) (run .new)
+        (next .new ∙ count-same (λ q. has q && not (held m′ q)) (λ q. has q && not (held m q)) (p + n) k (λ q l g. ap (λ (a : Bool). has q && not a) (later-same q l)))
         ∙ sym (count-split (λ q. has q && not (held m q)) p n k);
   }
 
@@ -84,7 +86,10 @@ module _ (m : List ℕ) (has : ℕ → Bool) (p n : ℕ) (m′ : List ℕ) (r : 
         (λ l g. ap (λ (a : Bool). held m q || within p n q && a) (same q l g))
         (λ g. rw (before-span p n q g))
         (λ g. rw (behind-span p n q g));
-    new = run .new ∙ count-same (λ q. has q && not (held m q)) (λ q. also q && not (held m q)) p n (λ q l g. ap (λ (a : Bool). a && not (held m q)) (same q l g));
+    new =
+        run .new
+        ∙ count-same (λ q. has q && not (held m q)) (λ q. also q && not (held m q)) p n
+        (λ q l g. ap (λ (a : Bool). a && not (held m q)) (same q l g));
   }
 
   -- a run has no more new positions than it has positions
@@ -145,7 +150,8 @@ module _ (m : List ℕ) (i theirs k : ℕ) (h : i < length m) (all : AllBytes m)
 
   -- where a bit of the new byte stands in the map
   pub fresh-is : (j : ℕ) → j < 8 → isSet (bitAnd theirs (255 - byteAt m i)) j ≡ (isSet theirs j && not (held m (i * 8 + j)))
-  fresh-is j l = set-and theirs (255 - byteAt m i) j ∙ ap (λ (b : Bool). isSet theirs j && b) (set-not (byteAt m i) j (all i) l ∙ ap not (sym (held-in m i j l)))
+  fresh-is j l =
+      set-and theirs (255 - byteAt m i) j ∙ ap (λ (b : Bool). isSet theirs j && b) (set-not (byteAt m i) j (all i) l ∙ ap not (sym (held-in m i j l)))
 
   counted : ones (bitAnd theirs (255 - byteAt m i)) ≡ count (λ q. isSet theirs (q - i * 8) && not (held m q)) (i * 8) k
   counted =

@@ -27,7 +27,9 @@ use Rattle.reception.specs.declared.Added.the-variants.{Accepted, Refuse
 
 -- ---- what the first two tests say
 pub right-length : (l : ℕ) → wrongLength l ≡ false → (1 ≤ l) × (l ≤ longest)
-right-length l e = let f = not-false (leb 1 l && leb l longest) e in (leb-true 1 l (and-left (leb 1 l) (leb l longest) f), leb-true l longest (and-right (leb 1 l) (leb l longest) f))
+right-length l e =
+    let f = not-false (leb 1 l && leb l longest) e in
+    (leb-true 1 l (and-left (leb 1 l) (leb l longest) f), leb-true l longest (and-right (leb 1 l) (leb l longest) f))
 
 pub enough-space : (l : ℕ) (map buffer : List ℕ) → shortSpace l map buffer ≡ false → (mapSize l ≤ length map) × (l ≤ length buffer)
 enough-space l map buffer e =

@@ -23,7 +23,8 @@ use Rattle.reception.specs.Held.{heldOf, heldCount}
 -- `open`
 pub only-one-open : (l : ℕ) (map buffer : List ℕ) (r q : Outcome) (m m′ b b′ : List ℕ) → Opens l map buffer r m b → Opens l map buffer q m′ b′
     → (r ≡ q) × (m ≡ m′) × (b ≡ b′)
-only-one-open l map buffer r q m m′ b b′ d e = (one-outcome r q (d .answers) (e .answers), only-one m m′ (d .leaves-map) (e .leaves-map), only-one b b′ (d .leaves-buffer) (e .leaves-buffer))
+only-one-open l map buffer r q m m′ b b′ d e =
+    (one-outcome r q (d .answers) (e .answers), only-one m m′ (d .leaves-map) (e .leaves-map), only-one b b′ (d .leaves-buffer) (e .leaves-buffer))
 
 -- `take` and `join`
 added-case : Answer ℕ → Added
@@ -58,7 +59,8 @@ unfolding listed-case
 listed-back (listed.Accepted hole) = refl
 listed-back (listed.Refused n) = refl
 
-pub only-one-list : (l : ℕ) (map : List ℕ) (place : ℕ) (r q : Listed) → listedAnswer r ≡ listing l map place → listedAnswer q ≡ listing l map place → r ≡ q
+pub only-one-list : (l : ℕ) (map : List ℕ) (place : ℕ) (r q : Listed) → listedAnswer r ≡ listing l map place → listedAnswer q ≡ listing l map place
+    → r ≡ q
 only-one-list l map place r q = only-one-meant listedAnswer listed-case listed-back r q
 
 -- `is_held` and `count_held`

@@ -64,7 +64,9 @@ module _ (m : List ℕ) (all : AllBytes m) where
         up-to h q l g = ⊎-elim (λ a. passed q a g (let i = inside h in omega arith)) (λ a. before q l a) (le-or-lt p q)
 
         pub stops : (n : ℕ) → k < 8 → p + k < n → p + k ≡ first (onSide m side) from (n - from)
-        stops n h g = sym (first-is (onSide m side) from (n - from) (p + k) (omega arith) (omega arith) (up-to h) (λ _. sym (rest-is k (inside h)) ∙ found-set h))
+        stops n h g =
+            sym
+            (first-is (onSide m side) from (n - from) (p + k) (omega arith) (omega arith) (up-to h) (λ _. sym (rest-is k (inside h)) ∙ found-set h))
 
         pub stops-short : (n : ℕ) → k < 8 → from ≤ n → n ≤ p + k → n ≡ first (onSide m side) from (n - from)
         stops-short n h l g =

@@ -10,7 +10,7 @@ use lib.Dec.{eqb, ltb}
 use lib.ListN.{length}
 use borrow.Author.Tests.{lt-ltb, eqb-true, ltb-true}
 use Rattle.reason.specs.Answer.{Answer, accepted, refused}
-use Rattle.reason.specs.Order.{Check, check, firstOf}
+use Rattle.reason.specs.Order.{check, firstOf}
 use Rattle.reason.proofs.Bools.{and-right, le-or-lt}
 use Rattle.reason.proofs.OrderLaws.{cut-off}
 use Rattle.octets.specs.Numbers.{byteAt}
@@ -60,7 +60,10 @@ module _ (s : Reception) (map : List ℕ) (below : SameBelow (s .length) (s .map
 
   same-map : SameBelow (s .length) (mapWith s o) (mapWith (withMap s map) o′)
   same-map = record {
-    long = map-long (λ p. held map p || offered o′ p) (length map) ∙ below .long ∙ sym (map-long (λ p. held (s .map) p || offered o p) (length (s .map)));
+    long =
+        map-long (λ p. held map p || offered o′ p) (length map)
+        ∙ below .long
+        ∙ sym (map-long (λ p. held (s .map) p || offered o p) (length (s .map)));
     same = λ p g. ⊎-elim
         (λ out. held-past (mapWith s o) p (let e = map-long (λ q. held (s .map) q || offered o q) (length (s .map)) in omega (arith, e, out))
         ∙ sym (held-past (mapWith (withMap s map) o′) p (let e = map-long (λ q. held map q || offered o′ q) (length map) in let f = below .long in omega (arith, e, f, out))))
@@ -76,33 +79,53 @@ short-same l map map′ buffer e = ap (λ (n : ℕ). ltb n (mapSize l) || ltb (l
 
 -- ---- taking a piece in
 module _ (s : Reception) (map : List ℕ) (below : SameBelow (s .length) (s .map) map) (x : Piece) where
-  fitting : x .offset + length (x .bytes) ≤ s .length → (agrees s (ofPiece x) ≡ agrees (withMap s map) (ofPiece x)) × (newIn s (ofPiece x) ≡ newIn (withMap s map) (ofPiece x))
+  -- the reception with the other map, and what the piece offers to both
+  abbrev s′ : Reception
+  s′ = withMap s map
+
+  abbrev x′ : Offer
+  x′ = ofPiece x
+
+  abbrev end : ℕ
+  end = x .offset + length (x .bytes)
+
+  -- the answer by whether the space is short, whether the piece agrees, and the count
+  abbrev answer : Bool → Bool → ℕ → Answer ℕ
+  answer short agree n =
+      firstOf (check (wrongLength (s .length)) 7 ∷
+      check short 12 ∷
+      check (not (eqb (s .number) (x .number))) 9 ∷
+      check (ltb (s .length) end) 10 ∷
+      check (not agree) 11 ∷ []) n
+
+  fitting : end ≤ s .length → (agrees s x′ ≡ agrees s′ x′) × (newIn s x′ ≡ newIn s′ x′)
   fitting h = (
-    same-agrees s map below (x .offset) (length (x .bytes)) (λ p. true) (λ p. true) (λ p. byteAt (x .bytes) (p - x .offset)) h (λ p _. refl),
-    same-new s map below (x .offset) (length (x .bytes)) (λ p. true) (λ p. true) (λ p. byteAt (x .bytes) (p - x .offset)) h (λ p _. refl),
+    same-agrees s map below (x .offset) (length (x .bytes)) (λ p. true) (λ p. true) (x′ .byte) h (λ p _. refl),
+    same-new s map below (x .offset) (length (x .bytes)) (λ p. true) (λ p. true) (x′ .byte) h (λ p _. refl),
   )
+
+  -- 11 and the count say nothing where the piece ends beyond l
+  too-far : (short : Bool) → s .length < end → answer short (agrees s x′) (newIn s x′) ≡ answer short (agrees s′ x′) (newIn s′ x′)
+  too-far short h =
+      cut-off (check (wrongLength (s .length)) 7 ∷ check short 12 ∷ check (not (eqb (s .number) (x .number))) 9 ∷ []) 10
+      (check (not (agrees s x′)) 11 ∷ []) (check (not (agrees s′ x′)) 11 ∷ []) (newIn s x′) (newIn s′ x′) (lt-ltb (s .length) end h)
 
   -- the answer is the same
   pub taking-same : taking s x ≡ taking (withMap s map) x
   unfolding taking
   taking-same =
-      let seven = check (wrongLength (s .length)) 7 in
-      let nine = check (not (eqb (s .number) (x .number))) 9 in
-      let ten = check (ltb (s .length) (x .offset + length (x .bytes))) 10 in
-      ap (λ (b : Bool). firstOf (seven ∷ check b 12 ∷ nine ∷ ten ∷ check (not (agrees s (ofPiece x))) 11 ∷ []) (newIn s (ofPiece x))) (short-same (s .length) (s .map) map (s .buffer) (below .long))
+      ap (λ (b : Bool). answer b (agrees s x′) (newIn s x′)) (short-same (s .length) (s .map) map (s .buffer) (below .long))
       ∙ ⊎-elim
-      (λ h. ap₂ (λ (b : Bool) (n : ℕ). firstOf (seven ∷ check (shortSpace (s .length) map (s .buffer)) 12 ∷ nine ∷ ten ∷ check (not b) 11 ∷ []) n) (fitting h .0) (fitting h .1))
-      (λ h. cut-off (seven ∷ check (shortSpace (s .length) map (s .buffer)) 12 ∷ nine ∷ []) 10 (check (not (agrees s (ofPiece x))) 11 ∷ []) (check (not (agrees (withMap s map) (ofPiece x))) 11 ∷ []) (newIn s (ofPiece x)) (newIn (withMap s map) (ofPiece x))
-      (lt-ltb (s .length) (x .offset + length (x .bytes)) h))
-      (le-or-lt (x .offset + length (x .bytes)) (s .length))
+      (λ h. ap₂ (answer (shortSpace (s .length) map (s .buffer))) (fitting h .0) (fitting h .1))
+      (λ h. too-far (shortSpace (s .length) map (s .buffer)) h)
+      (le-or-lt end (s .length))
 
-  taken-by : (a : Answer ℕ) → taking s x ≡ a
-      → (after s (ofPiece x) a .buffer ≡ after (withMap s map) (ofPiece x) a .buffer) × SameBelow (s .length) (after s (ofPiece x) a .map) (after (withMap s map) (ofPiece x) a .map)
+  taken-by : (a : Answer ℕ) → taking s x ≡ a → (after s x′ a .buffer ≡ after s′ x′ a .buffer) × SameBelow (s .length) (after s x′ a .map) (after s′ x′ a .map)
   taken-by (refused n) e = (refl, below)
   taken-by (accepted n) e =
       let h = taken-ends s x n e in (
-        same-buffer s map below (x .offset) (length (x .bytes)) (λ p. true) (λ p. true) (λ p. byteAt (x .bytes) (p - x .offset)) h (λ p _. refl),
-        same-map s map below (x .offset) (length (x .bytes)) (λ p. true) (λ p. true) (λ p. byteAt (x .bytes) (p - x .offset)) h (λ p _. refl),
+        same-buffer s map below (x .offset) (length (x .bytes)) (λ p. true) (λ p. true) (x′ .byte) h (λ p _. refl),
+        same-map s map below (x .offset) (length (x .bytes)) (λ p. true) (λ p. true) (x′ .byte) h (λ p _. refl),
       )
 
   -- so is the buffer afterwards, and the map below l
@@ -111,33 +134,51 @@ module _ (s : Reception) (map : List ℕ) (below : SameBelow (s .length) (s .map
 
 -- ---- joining, with spare bits in either map
 module _ (s t : Reception) (map map′ : List ℕ) (below : SameBelow (s .length) (s .map) map) (below′ : SameBelow (t .length) (t .map) map′) where
-  together : s .length ≡ t .length
-      → (agrees s (ofReception t) ≡ agrees (withMap s map) (ofReception (withMap t map′))) × (newIn s (ofReception t) ≡ newIn (withMap s map) (ofReception (withMap t map′)))
+  -- the receptions with the other maps, and what the second offers by each of its maps
+  abbrev s″ : Reception
+  s″ = withMap s map
+
+  abbrev o″ : Offer
+  o″ = ofReception t
+
+  abbrev o‴ : Offer
+  o‴ = ofReception (withMap t map′)
+
+  abbrev alike : Bool
+  alike = eqb (s .number) (t .number) && eqb (s .length) (t .length)
+
+  -- the answer by whether space is short, whether they agree, and the count
+  abbrev joint : Bool → Bool → ℕ → Answer ℕ
+  joint short agree n =
+      firstOf (check (wrongLength (s .length) || wrongLength (t .length)) 7 ∷
+      check short 12 ∷
+      check (not alike) 9 ∷
+      check (not agree) 11 ∷ []) n
+
+  together : s .length ≡ t .length → (agrees s o″ ≡ agrees s″ o‴) × (newIn s o″ ≡ newIn s″ o‴)
   together e = (
     same-agrees s map below 0 (t .length) (held (t .map)) (held map′) (byteAt (t .buffer)) (omega arith) (λ p g. below′ .same p (omega arith)),
     same-new s map below 0 (t .length) (held (t .map)) (held map′) (byteAt (t .buffer)) (omega arith) (λ p g. below′ .same p (omega arith)),
   )
 
-  by-lengths : (b : Bool) → (eqb (s .number) (t .number) && eqb (s .length) (t .length)) ≡ b
-      → (c d : Check) → firstOf (c ∷ d ∷ check (not (eqb (s .number) (t .number) && eqb (s .length) (t .length))) 9 ∷ check (not (agrees s (ofReception t))) 11 ∷ []) (newIn s (ofReception t))
-      ≡ firstOf (c ∷ d ∷ check (not (eqb (s .number) (t .number) && eqb (s .length) (t .length))) 9 ∷ check (not (agrees (withMap s map) (ofReception (withMap t map′)))) 11 ∷ []) (newIn (withMap s map) (ofReception (withMap t map′)))
-  by-lengths true e c d =
+  -- 11 and the count say nothing where number or length differ
+  by-lengths : (short b : Bool) → alike ≡ b → joint short (agrees s o″) (newIn s o″) ≡ joint short (agrees s″ o‴) (newIn s″ o‴)
+  by-lengths short true e =
       let w = together (eqb-true (s .length) (t .length) (and-right (eqb (s .number) (t .number)) (eqb (s .length) (t .length)) e)) in
-      ap₂ (λ (b : Bool) (n : ℕ). firstOf (c ∷ d ∷ check (not (eqb (s .number) (t .number) && eqb (s .length) (t .length))) 9 ∷ check (not b) 11 ∷ []) n) (w .0) (w .1)
-  by-lengths false e c d =
-      cut-off (c ∷ d ∷ []) 9 (check (not (agrees s (ofReception t))) 11 ∷ []) (check (not (agrees (withMap s map) (ofReception (withMap t map′)))) 11 ∷ []) (newIn s (ofReception t)) (newIn (withMap s map) (ofReception (withMap t map′))) (ap not e)
+      ap₂ (joint short) (w .0) (w .1)
+  by-lengths short false e =
+      cut-off (check (wrongLength (s .length) || wrongLength (t .length)) 7 ∷ check short 12 ∷ []) 9
+      (check (not (agrees s o″)) 11 ∷ []) (check (not (agrees s″ o‴)) 11 ∷ []) (newIn s o″) (newIn s″ o‴) (ap not e)
 
   -- the answer is the same
   pub joining-same : joining s t ≡ joining (withMap s map) (withMap t map′)
   unfolding joining
   joining-same =
-      let seven = check (wrongLength (s .length) || wrongLength (t .length)) 7 in
-      ap₂ (λ (a b : Bool). firstOf (seven ∷ check (a || b) 12 ∷ check (not (eqb (s .number) (t .number) && eqb (s .length) (t .length))) 9 ∷ check (not (agrees s (ofReception t))) 11 ∷ []) (newIn s (ofReception t)))
+      ap₂ (λ (a b : Bool). joint (a || b) (agrees s o″) (newIn s o″))
       (short-same (s .length) (s .map) map (s .buffer) (below .long)) (short-same (t .length) (t .map) map′ (t .buffer) (below′ .long))
-      ∙ by-lengths (eqb (s .number) (t .number) && eqb (s .length) (t .length)) refl seven (check (shortSpace (s .length) map (s .buffer) || shortSpace (t .length) map′ (t .buffer)) 12)
+      ∙ by-lengths (shortSpace (s .length) map (s .buffer) || shortSpace (t .length) map′ (t .buffer)) alike refl
 
-  joined-by : (a : Answer ℕ) → joining s t ≡ a
-      → (after s (ofReception t) a .buffer ≡ after (withMap s map) (ofReception (withMap t map′)) a .buffer) × SameBelow (s .length) (after s (ofReception t) a .map) (after (withMap s map) (ofReception (withMap t map′)) a .map)
+  joined-by : (a : Answer ℕ) → joining s t ≡ a → (after s o″ a .buffer ≡ after s″ o‴ a .buffer) × SameBelow (s .length) (after s o″ a .map) (after s″ o‴ a .map)
   joined-by (refused n) e = (refl, below)
   joined-by (accepted n) e =
       let k = joined-lengths s t n e in (

@@ -108,7 +108,8 @@ copy-next new from b at p b′ k b″ h run next =
 pub end-cases : (p n : ℕ) → ((p + 8 ≤ n) × (upTo p n ≡ p + 8)) ⊎ ((n < p + 8) × (upTo p n ≡ n))
 end-cases p n = by (leb (p + 8) n) refl (le-or-lt (p + 8) n)
   where
-    by : (b : Bool) → leb (p + 8) n ≡ b → (p + 8 ≤ n) ⊎ (n < p + 8) → ((p + 8 ≤ n) × (cond b (p + 8) n ≡ p + 8)) ⊎ ((n < p + 8) × (cond b (p + 8) n ≡ n))
+    by : (b : Bool) → leb (p + 8) n ≡ b → (p + 8 ≤ n) ⊎ (n < p + 8)
+        → ((p + 8 ≤ n) × (cond b (p + 8) n ≡ p + 8)) ⊎ ((n < p + 8) × (cond b (p + 8) n ≡ n))
     by true e w = inl (leb-true (p + 8) n e, refl)
     by false e w = inr (leb-false (p + 8) n e, refl)
 

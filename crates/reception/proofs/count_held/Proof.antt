@@ -52,7 +52,12 @@ sum c =
     ap₂ (λ (x y : ℕ). x + y) (c .before .count-bytes2 .ensures) (c .count-rest .ensures) ∙ two-parts (s .args .map .now) (s .args .length)
 
 add-result : tie.Need-add-result
-add-result c = let s = c .before .before .before .before in let a = sum c in let b = count-most (held (s .args .map .now)) 0 (s .args .length) in let f = s .fits .length in omega (arith, a, b, f)
+add-result c =
+    let s = c .before .before .before .before in
+    let a = sum c in
+    let b = count-most (held (s .args .map .now)) 0 (s .args .length) in
+    let f = s .fits .length in
+    omega (arith, a, b, f)
 
 returns-2 : tie.Need-returns-2
 returns-2 c = sum c

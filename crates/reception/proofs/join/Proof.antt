@@ -25,7 +25,8 @@ use Rattle.reception.proofs.join.Statement.{statement}
 use Rattle.reception.proofs.join.Tie as tie
 
 -- adding what the second holds below its length, where the lengths are the same
-adds-joined : (s t : Reception) (l r : ℕ) (map buffer : List ℕ) → l ≡ t .length → joining s t ≡ accepted (newIn s (ofReception t)) → MapRun (s .map) (held (t .map)) 0 l map r
+adds-joined : (s t : Reception) (l r : ℕ) (map buffer : List ℕ) → l ≡ t .length → joining s t ≡ accepted (newIn s (ofReception t))
+    → MapRun (s .map) (held (t .map)) 0 l map r
     → BufferRun (λ q. held (t .map) q && not (held (s .map) q)) (t .buffer) (s .buffer) 0 l buffer → Adds s (ofReception t) (joining s t) (Accepted r) map buffer
 adds-joined s t l r map buffer e is run copied =
     adds-accepted s (ofReception t) (joining s t) map buffer r (is ∙ ap accepted (sym (more .new))) (run-map (s .map) (held (t .map)) 0 (t .length) map r more)
@@ -47,11 +48,14 @@ s c = record { number = c .args .number; length = c .args .length; map = c .args
 abbrev t : tie.Start → Reception
 t c = record { number = c .args .second-number; length = c .args .second-length; map = c .args .second-map .now; buffer = c .args .second-buffer .now }
 
-refuses : (c : tie.Start) (n : ℕ) → joining (s c) (t c) ≡ refused n → Adds (s c) (ofReception (t c)) (joining (s c) (t c)) (Refused n) (s c .map) (s c .buffer)
+refuses : (c : tie.Start) (n : ℕ) → joining (s c) (t c) ≡ refused n
+    → Adds (s c) (ofReception (t c)) (joining (s c) (t c)) (Refused n) (s c .map) (s c .buffer)
 refuses c n e = adds-refused (s c) (ofReception (t c)) (joining (s c) (t c)) (s c .map) (s c .buffer) n e refl refl
 
 returns : tie.Need-returns
-returns c = refuses (c .before .before .before .before .before .before .before) 7 (joins-7 (s (c .before .before .before .before .before .before .before)) (t (c .before .before .before .before .before .before .before)) (sym (ap₂ _||_ (c .before .before .wrong-length .ensures) (c .before .wrong-length2 .ensures)) ∙ c .if1 .taken))
+returns c =
+    refuses (c .before .before .before .before .before .before .before) 7
+    (joins-7 (s (c .before .before .before .before .before .before .before)) (t (c .before .before .before .before .before .before .before)) (sym (ap₂ _||_ (c .before .before .wrong-length .ensures) (c .before .wrong-length2 .ensures)) ∙ c .if1 .taken))
 
 short-requires : tie.Need-short-requires
 short-requires c κs = search needs
@@ -72,7 +76,10 @@ right : (c : tie.Else1) → (wrongLength (S c .args .length) || wrongLength (S c
 right c = sym (ap₂ _||_ (c .before .before .wrong-length .ensures) (c .before .wrong-length2 .ensures)) ∙ c .if1 .left
 
 returns-2 : tie.Need-returns-2
-returns-2 c = let d = c .before .before .before .before .before in refuses (S d) 12 (joins-12 (s (S d)) (t (S d)) (right d) (sym (ap₂ _||_ (c .before .before .short .ensures) (c .before .short2 .ensures)) ∙ c .if2 .taken))
+returns-2 c =
+    let d = c .before .before .before .before .before in
+    refuses (S d) 12
+    (joins-12 (s (S d)) (t (S d)) (right d) (sym (ap₂ _||_ (c .before .before .short .ensures) (c .before .short2 .ensures)) ∙ c .if2 .taken))
 
 same-length-3 : tie.Need-same-length-3
 same-length-3 c = search needs
@@ -97,7 +104,9 @@ same : (c : tie.Else3) → (eqb (T c .args .number) (T c .args .second-number) &
 same c = not-false _ (c .if3 .left)
 
 lengths : (c : tie.Else3) → T c .args .length ≡ T c .args .second-length
-lengths c = eqb-true (T c .args .length) (T c .args .second-length) (and-right (eqb (T c .args .number) (T c .args .second-number)) (eqb (T c .args .length) (T c .args .second-length)) (same c))
+lengths c =
+    eqb-true (T c .args .length) (T c .args .second-length)
+    (and-right (eqb (T c .args .number) (T c .args .second-number)) (eqb (T c .args .length) (T c .args .second-length)) (same c))
 
 -- room for the first's length in both
 enough : (c : tie.Else3)
@@ -125,10 +134,17 @@ same-length-6 : tie.Need-same-length-6
 same-length-6 c = search needs
 
 returns-4 : tie.Need-returns-4
-returns-4 c = let f = c .before .before .before .before in let e = f .before in let d = D e in refuses (S d) 11 (joins-11 (s (S d)) (t (S d)) (right d) (room e) (same f) (agreed f ∙ sym (c .before .agree .ensures) ∙ not-true (c .before .agree .result) (c .if4 .taken)))
+returns-4 c =
+    let f = c .before .before .before .before in
+    let e = f .before in
+    let d = D e in
+    refuses (S d) 11
+    (joins-11 (s (S d)) (t (S d)) (right d) (room e) (same f) (agreed f ∙ sym (c .before .agree .ensures) ∙ not-true (c .before .agree .result) (c .if4 .taken)))
 
 add-requires : tie.Need-add-requires
-add-requires c κs = let w = enough (c .before .before .before .before .before .before) in (omega (arith, w), omega (arith, w), omega (arith, w), omega (arith, w), omega (arith, w))
+add-requires c κs =
+    let w = enough (c .before .before .before .before .before .before) in
+    (omega (arith, w), omega (arith, w), omega (arith, w), omega (arith, w), omega (arith, w))
 
 same-length-7 : tie.Need-same-length-7
 same-length-7 c = search needs
@@ -137,7 +153,13 @@ same-length-8 : tie.Need-same-length-8
 same-length-8 c = search needs
 
 returns-5 : tie.Need-returns-5
-returns-5 c = let f = c .before .before .before .before .before .before .before .before .before .before .before in let e = f .before in let d = D e in adds-joined (s (S d)) (t (S d)) (S d .args .length) (c .before .before .before .before .add .result) _ _ (lengths f) (joins (s (S d)) (t (S d)) (right d) (room e) (same f) (agreed f ∙ sym (c .before .before .before .before .before .before .before .before .agree .ensures) ∙ not-false (c .before .before .before .before .before .before .before .before .agree .result) (c .before .before .before .before .before .before .before .if4 .left))) (c .before .before .before .before .add .ensures .0) (c .before .before .before .before .add .ensures .1)
+returns-5 c =
+    let f = c .before .before .before .before .before .before .before .before .before .before .before in
+    let e = f .before in
+    let d = D e in
+    adds-joined (s (S d)) (t (S d)) (S d .args .length) (c .before .before .before .before .add .result) _ _ (lengths f)
+    (joins (s (S d)) (t (S d)) (right d) (room e) (same f) (agreed f ∙ sym (c .before .before .before .before .before .before .before .before .agree .ensures) ∙ not-false (c .before .before .before .before .before .before .before .before .agree .result) (c .before .before .before .before .before .before .before .if4 .left)))
+    (c .before .before .before .before .add .ensures .0) (c .before .before .before .before .add .ensures .1)
 
 pub join-spec : {M : Type 1} → statement M
 join-spec =

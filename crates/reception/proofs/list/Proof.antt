@@ -32,7 +32,9 @@ wrong-length-requires : tie.Need-wrong-length-requires
 wrong-length-requires c κs = search needs
 
 returns : tie.Need-returns
-returns c = let s = c .before .before .before in sym (lists-7 (s .args .length) (s .args .map .now) (s .args .place) (sym (c .before .wrong-length .ensures) ∙ c .if1 .taken))
+returns c =
+    let s = c .before .before .before in
+    sym (lists-7 (s .args .length) (s .args .map .now) (s .args .place) (sym (c .before .wrong-length .ensures) ∙ c .if1 .taken))
 
 add-if2 : tie.Need-add-if2
 add-if2 c = search needs
@@ -44,16 +46,25 @@ small : (c : tie.Else1) → c .before .before .before .args .length ≤ longest
 small c = right-length (c .before .before .before .args .length) (right c) .1
 
 returns-2 : tie.Need-returns-2
-returns-2 c = let s = c .before .before .before .before in sym (lists-12 (s .args .length) (s .args .map .now) (s .args .place) (right (c .before)) (c .if2 .taken))
+returns-2 c =
+    let s = c .before .before .before .before in
+    sym (lists-12 (s .args .length) (s .args .map .now) (s .args .place) (right (c .before)) (c .if2 .taken))
 
 returns-3 : tie.Need-returns-3
-returns-3 c = let s = c .before .before .before .before .before in sym (lists-15 (s .args .length) (s .args .map .now) (s .args .place) (right (c .before .before)) (c .before .if2 .left) (beyond (s .args .length) (s .args .map .now) (s .args .place) (c .if3 .taken)))
+returns-3 c =
+    let s = c .before .before .before .before .before in
+    sym
+    (lists-15 (s .args .length) (s .args .map .now) (s .args .place) (right (c .before .before)) (c .before .if2 .left) (beyond (s .args .length) (s .args .map .now) (s .args .place) (c .if3 .taken)))
 
 hole-start-requires : tie.Need-hole-start-requires
 hole-start-requires c κs = let r = small (c .before .before) in (omega arith, omega (arith, r), omega arith)
 
 returns-4 : tie.Need-returns-4
-returns-4 c = let s = c .before .before .before .before .before .before .before in let is = c .before .hole-start .ensures in sym (lists-15 (s .args .length) (s .args .map .now) (s .args .place) (right (c .before .before .before .before)) (c .before .before .before .if2 .left) (omega (arith, is)))
+returns-4 c =
+    let s = c .before .before .before .before .before .before .before in
+    let is = c .before .hole-start .ensures in
+    sym
+    (lists-15 (s .args .length) (s .args .map .now) (s .args .place) (right (c .before .before .before .before)) (c .before .before .before .if2 .left) (omega (arith, is)))
 
 first-requires : tie.Need-first-requires
 first-requires c κs = let r = small (c .before .before .before .before) in (omega arith, omega (arith, r), omega arith)
@@ -62,13 +73,26 @@ cast-t13 : tie.Need-cast-t13
 cast-t13 c = search needs
 
 sub-t9 : tie.Need-sub-t9
-sub-t9 c = let s = c .before .before .before .before .before .before .before .before in let b = first-from (held (s .args .map .now)) (c .before .before .hole-start .result) (s .args .length - c .before .before .hole-start .result) in let e = c .first .ensures in omega (arith, b, e)
+sub-t9 c =
+    let s = c .before .before .before .before .before .before .before .before in
+    let b = first-from (held (s .args .map .now)) (c .before .before .hole-start .result) (s .args .length - c .before .before .hole-start .result) in
+    let e = c .first .ensures in
+    omega (arith, b, e)
 
 cast-t14 : tie.Need-cast-t14
-cast-t14 c = let s = c .before .before .before .before .before .before .before .before in let r = small (c .before .before .before .before .before) in let b = first-by (held (s .args .map .now)) (c .before .before .hole-start .result) (s .args .length - c .before .before .hole-start .result) in let e = c .first .ensures in omega (arith, r, b, e)
+cast-t14 c =
+    let s = c .before .before .before .before .before .before .before .before in
+    let r = small (c .before .before .before .before .before) in
+    let b = first-by (held (s .args .map .now)) (c .before .before .hole-start .result) (s .args .length - c .before .before .hole-start .result) in
+    let e = c .first .ensures in
+    omega (arith, r, b, e)
 
 returns-5 : tie.Need-returns-5
-returns-5 c = let s = c .before .before .before .before .before .before .before .before in let is = c .before .before .hole-start .ensures in sym (lists (s .args .length) (s .args .map .now) (s .args .place) (right (c .before .before .before .before .before)) (c .before .before .before .before .if2 .left) (omega (arith, is)) ∙ ap accepted (hole-is (s .args .length) (s .args .map .now) (s .args .place) (c .before .before .hole-start .result) (c .first .result) is (c .first .ensures)))
+returns-5 c =
+    let s = c .before .before .before .before .before .before .before .before in
+    let is = c .before .before .hole-start .ensures in
+    sym
+    (lists (s .args .length) (s .args .map .now) (s .args .place) (right (c .before .before .before .before .before)) (c .before .before .before .before .if2 .left) (omega (arith, is)) ∙ ap accepted (hole-is (s .args .length) (s .args .map .now) (s .args .place) (c .before .before .hole-start .result) (c .first .result) is (c .first .ensures)))
 
 pub list-spec : {M : Type 1} → statement M
 list-spec =

@@ -17,7 +17,10 @@ wrong-length-requires : tie.Need-wrong-length-requires
 wrong-length-requires c κs = search needs
 
 returns : tie.Need-returns
-returns c = let s = c .before .before .before .before in opens-refused (s .args .length) (s .args .map .now) (s .args .buffer .now) 7 (opens-7 (s .args .length) (s .args .map .now) (s .args .buffer .now) (sym (c .before .wrong-length .ensures) ∙ c .if1 .taken))
+returns c =
+    let s = c .before .before .before .before in
+    opens-refused (s .args .length) (s .args .map .now) (s .args .buffer .now) 7
+    (opens-7 (s .args .length) (s .args .map .now) (s .args .buffer .now) (sym (c .before .wrong-length .ensures) ∙ c .if1 .taken))
 
 short-requires : tie.Need-short-requires
 short-requires c κs = search needs
@@ -40,11 +43,16 @@ E c = c .before .before .before .before
 room : (c : tie.Else2) → shortSpace (S (E c) .args .length) (S (E c) .args .map .now) (S (E c) .args .buffer .now) ≡ false
 room c = sym (c .before .short .ensures) ∙ c .if2 .left
 
-enough : (c : tie.Else2) → (mapSize (S (E c) .args .length) ≤ length (S (E c) .args .map .now)) × (S (E c) .args .length ≤ length (S (E c) .args .buffer .now))
+enough : (c : tie.Else2)
+    → (mapSize (S (E c) .args .length) ≤ length (S (E c) .args .map .now)) × (S (E c) .args .length ≤ length (S (E c) .args .buffer .now))
 enough c = enough-space (S (E c) .args .length) (S (E c) .args .map .now) (S (E c) .args .buffer .now) (room c)
 
 returns-2 : tie.Need-returns-2
-returns-2 c = let d = c .before .before .before .before in let s = S d in opens-refused (s .args .length) (s .args .map .now) (s .args .buffer .now) 12 (opens-12 (s .args .length) (s .args .map .now) (s .args .buffer .now) (right d) (sym (c .before .short .ensures) ∙ c .if2 .taken))
+returns-2 c =
+    let d = c .before .before .before .before in
+    let s = S d in
+    opens-refused (s .args .length) (s .args .map .now) (s .args .buffer .now) 12
+    (opens-12 (s .args .length) (s .args .map .now) (s .args .buffer .now) (right d) (sym (c .before .short .ensures) ∙ c .if2 .taken))
 
 add-clear : tie.Need-add-clear
 add-clear c = search needs
@@ -62,7 +70,12 @@ same-length-4 : tie.Need-same-length-4
 same-length-4 c = search needs
 
 returns-3 : tie.Need-returns-3
-returns-3 c = let d = c .before .before .before .before .before .before .before .before in let s = S (d .before .before .before .before) in opens-accepted (s .args .length) (s .args .map .now) (s .args .buffer .now) (opens (s .args .length) (s .args .map .now) (s .args .buffer .now) (right (d .before .before .before .before)) (room d)) _ _ (c .before .before .before .before .before .before .clear .ensures) (c .before .before .clear2 .ensures)
+returns-3 c =
+    let d = c .before .before .before .before .before .before .before .before in
+    let s = S (d .before .before .before .before) in
+    opens-accepted (s .args .length) (s .args .map .now) (s .args .buffer .now)
+    (opens (s .args .length) (s .args .map .now) (s .args .buffer .now) (right (d .before .before .before .before)) (room d)) _ _
+    (c .before .before .before .before .before .before .clear .ensures) (c .before .before .clear2 .ensures)
 
 pub open-spec : {M : Type 1} → statement M
 open-spec =

@@ -39,11 +39,14 @@ s c = record { number = c .args .number; length = c .args .length; map = c .args
 abbrev x : tie.Start → Piece
 x c = record { number = c .args .piece-number; offset = c .args .offset; bytes = c .args .piece .now }
 
-refuses : (c : tie.Start) (n : ℕ) → taking (s c) (x c) ≡ refused n → Adds (s c) (ofPiece (x c)) (taking (s c) (x c)) (Refused n) (s c .map) (s c .buffer)
+refuses : (c : tie.Start) (n : ℕ) → taking (s c) (x c) ≡ refused n
+    → Adds (s c) (ofPiece (x c)) (taking (s c) (x c)) (Refused n) (s c .map) (s c .buffer)
 refuses c n e = adds-refused (s c) (ofPiece (x c)) (taking (s c) (x c)) (s c .map) (s c .buffer) n e refl refl
 
 returns : tie.Need-returns
-returns c = refuses (c .before .before .before .before .before) 7 (takes-7 (s (c .before .before .before .before .before)) (x (c .before .before .before .before .before)) (sym (c .before .wrong-length .ensures) ∙ c .if1 .taken))
+returns c =
+    refuses (c .before .before .before .before .before) 7
+    (takes-7 (s (c .before .before .before .before .before)) (x (c .before .before .before .before .before)) (sym (c .before .wrong-length .ensures) ∙ c .if1 .taken))
 
 short-requires : tie.Need-short-requires
 short-requires c κs = search needs
@@ -61,7 +64,9 @@ right : (c : tie.Else1) → wrongLength (S c .args .length) ≡ false
 right c = sym (c .before .wrong-length .ensures) ∙ c .if1 .left
 
 returns-2 : tie.Need-returns-2
-returns-2 c = let d = c .before .before .before .before in refuses (S d) 12 (takes-12 (s (S d)) (x (S d)) (right d) (sym (c .before .short .ensures) ∙ c .if2 .taken))
+returns-2 c =
+    let d = c .before .before .before .before in
+    refuses (S d) 12 (takes-12 (s (S d)) (x (S d)) (right d) (sym (c .before .short .ensures) ∙ c .if2 .taken))
 
 same-length-3 : tie.Need-same-length-3
 same-length-3 c = search needs
@@ -85,7 +90,10 @@ same-length-6 : tie.Need-same-length-6
 same-length-6 c = search needs
 
 returns-4 : tie.Need-returns-4
-returns-4 c = let e = c .before .before in let d = D e in refuses (S d) 10 (takes-10 (s (S d)) (x (S d)) (right d) (room e) (c .before .if3 .left) (omega arith))
+returns-4 c =
+    let e = c .before .before in
+    let d = D e in
+    refuses (S d) 10 (takes-10 (s (S d)) (x (S d)) (right d) (room e) (c .before .if3 .left) (omega arith))
 
 sub-if5 : tie.Need-sub-if5
 sub-if5 c = search needs
@@ -97,10 +105,16 @@ same-length-8 : tie.Need-same-length-8
 same-length-8 c = search needs
 
 returns-5 : tie.Need-returns-5
-returns-5 c = let e = c .before .before .before in let d = D e in refuses (S d) 10 (takes-10 (s (S d)) (x (S d)) (right d) (room e) (c .before .before .if3 .left) (omega arith))
+returns-5 c =
+    let e = c .before .before .before in
+    let d = D e in
+    refuses (S d) 10 (takes-10 (s (S d)) (x (S d)) (right d) (room e) (c .before .before .if3 .left) (omega arith))
 
-enough : (c : tie.Else2) → (S (D c) .args .length ≤ longest) × (mapSize (S (D c) .args .length) ≤ length (S (D c) .args .map .now)) × (S (D c) .args .length ≤ length (S (D c) .args .buffer .now))
-enough c = let w = enough-space (S (D c) .args .length) (S (D c) .args .map .now) (S (D c) .args .buffer .now) (room c) in (right-length (S (D c) .args .length) (right (D c)) .1, w .0, w .1)
+enough : (c : tie.Else2)
+    → (S (D c) .args .length ≤ longest) × (mapSize (S (D c) .args .length) ≤ length (S (D c) .args .map .now)) × (S (D c) .args .length ≤ length (S (D c) .args .buffer .now))
+enough c =
+    let w = enough-space (S (D c) .args .length) (S (D c) .args .map .now) (S (D c) .args .buffer .now) (room c) in
+    (right-length (S (D c) .args .length) (right (D c)) .1, w .0, w .1)
 
 abbrev T : tie.Else5 → tie.Start
 T c = S (D (c .before .before .before))
@@ -109,13 +123,19 @@ fits : (c : tie.Else5) → x (T c) .offset + length (x (T c) .bytes) ≤ s (T c)
 fits c = omega arith
 
 agree-requires : tie.Need-agree-requires
-agree-requires c κs = let w = enough (c .before .before .before .before .before) in let f = fits (c .before .before) in (omega (arith, w, f), omega (arith, w, f), omega (arith, w, f))
+agree-requires c κs =
+    let w = enough (c .before .before .before .before .before) in
+    let f = fits (c .before .before) in
+    (omega (arith, w, f), omega (arith, w, f), omega (arith, w, f))
 
 agreed : (c : tie.After-agree) → agrees (s (T (c .before .before .before))) (ofPiece (x (T (c .before .before .before)))) ≡ c .agree .result
 agreed c = sym (piece-agrees (s (T (c .before .before .before))) (x (T (c .before .before .before)))) ∙ sym (c .agree .ensures)
 
 write-requires : tie.Need-write-requires
-write-requires c κs = let w = enough (c .before .before .before .before .before .before .before .before) in let f = fits (c .before .before .before .before .before) in (omega (arith, w, f), omega (arith, w, f), omega (arith, w, f))
+write-requires c κs =
+    let w = enough (c .before .before .before .before .before .before .before .before) in
+    let f = fits (c .before .before .before .before .before) in
+    (omega (arith, w, f), omega (arith, w, f), omega (arith, w, f))
 
 same-length-9 : tie.Need-same-length-9
 same-length-9 c = search needs
@@ -124,7 +144,17 @@ same-length-10 : tie.Need-same-length-10
 same-length-10 c = search needs
 
 returns-6 : tie.Need-returns-6
-returns-6 c = let f = c .before .before .before .before .before .before .before .before .before .before .before in let k = T f in let w = enough (f .before .before .before) in let e = fits f in let agree = agreed (c .before .before .before .before .before .before .before .before) ∙ c .if6 .taken in let done = wrote (s k .map) (s k .buffer) (x k .offset) (x k .bytes) (c .before .before .before .before .before .before .before .before .agree .result) _ _ _ (c .before .before .before .before .before .write .ensures) (c .if6 .taken) in adds-accepted (s k) (ofPiece (x k)) (taking (s k) (x k)) _ _ (c .before .before .before .before .before .write .result) (takes (s k) (x k) (right (D (f .before .before .before))) (room (f .before .before .before)) (f .before .before .if3 .left) e agree ∙ ap accepted (sym (done .0 .new))) (run-map (s k .map) (λ q. true) (x k .offset) (length (x k .bytes)) _ _ (done .0)) (done .1 ∙ piece-stored (s k) (x k) agree (omega (arith, w, e)))
+returns-6 c =
+    let f = c .before .before .before .before .before .before .before .before .before .before .before in
+    let k = T f in
+    let w = enough (f .before .before .before) in
+    let e = fits f in
+    let agree = agreed (c .before .before .before .before .before .before .before .before) ∙ c .if6 .taken in
+    let done = wrote (s k .map) (s k .buffer) (x k .offset) (x k .bytes) (c .before .before .before .before .before .before .before .before .agree .result) _ _ _ (c .before .before .before .before .before .write .ensures) (c .if6 .taken) in
+    adds-accepted (s k) (ofPiece (x k)) (taking (s k) (x k)) _ _ (c .before .before .before .before .before .write .result)
+    (takes (s k) (x k) (right (D (f .before .before .before))) (room (f .before .before .before)) (f .before .before .if3 .left) e agree ∙ ap accepted (sym (done .0 .new)))
+    (run-map (s k .map) (λ q. true) (x k .offset) (length (x k .bytes)) _ _ (done .0))
+    (done .1 ∙ piece-stored (s k) (x k) agree (omega (arith, w, e)))
 
 same-length-11 : tie.Need-same-length-11
 same-length-11 c = search needs
@@ -133,7 +163,13 @@ same-length-12 : tie.Need-same-length-12
 same-length-12 c = search needs
 
 returns-7 : tie.Need-returns-7
-returns-7 c = let f = c .before .before .before .before .before .before .before .before .before .before .before in let k = T f in let kept = left (s k .map) (s k .buffer) (x k .offset) (x k .bytes) (c .before .before .before .before .before .before .before .before .agree .result) _ _ _ (c .before .before .before .before .before .write .ensures) (c .if6 .left) in adds-refused (s k) (ofPiece (x k)) (taking (s k) (x k)) _ _ 11 (takes-11 (s k) (x k) (right (D (f .before .before .before))) (room (f .before .before .before)) (f .before .before .if3 .left) (fits f) (agreed (c .before .before .before .before .before .before .before .before) ∙ c .if6 .left)) (kept .0) (kept .1)
+returns-7 c =
+    let f = c .before .before .before .before .before .before .before .before .before .before .before in
+    let k = T f in
+    let kept = left (s k .map) (s k .buffer) (x k .offset) (x k .bytes) (c .before .before .before .before .before .before .before .before .agree .result) _ _ _ (c .before .before .before .before .before .write .ensures) (c .if6 .left) in
+    adds-refused (s k) (ofPiece (x k)) (taking (s k) (x k)) _ _ 11
+    (takes-11 (s k) (x k) (right (D (f .before .before .before))) (room (f .before .before .before)) (f .before .before .if3 .left) (fits f) (agreed (c .before .before .before .before .before .before .before .before) ∙ c .if6 .left))
+    (kept .0) (kept .1)
 
 pub take-spec : {M : Type 1} → statement M
 take-spec =

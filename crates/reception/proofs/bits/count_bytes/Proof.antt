@@ -33,7 +33,8 @@ abbrev S : tie.After-count-set Inv-loop μ-loop → tie.Start Inv-loop μ-loop
 S c = c .before .before .before .before .before
 
 -- one byte more
-next : (c : tie.After-count-set Inv-loop μ-loop) → L c .loop .total + c .count-set .result ≡ count (held (S c .args .map .now)) 0 ((L c .loop .i + 1) * 8)
+next : (c : tie.After-count-set Inv-loop μ-loop)
+    → L c .loop .total + c .count-set .result ≡ count (held (S c .args .map .now)) 0 ((L c .loop .i + 1) * 8)
 next c =
     ap₂ (λ (x y : ℕ). x + y) (L c .loop .inv .1) (c .count-set .ensures)
     ∙ count-byte (S c .args .map .now) (L c .loop .i) (c .before .shared-slice-known2 .given (L c .loop .i) .fits)

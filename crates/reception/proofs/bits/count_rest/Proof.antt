@@ -14,7 +14,8 @@ use Rattle.reception.proofs.bits.count_rest.Tie as tie
 none : (t : ℕ → Bool) (p : ℕ) → count t p (p - p) ≡ 0
 none t p = let e : p - p ≡ 0 = omega arith in ap (count t p) e ∙ count-none t p
 
-more : (t : ℕ → Bool) (from p total one : ℕ) → from ≤ p → total ≡ count t from (p - from) → one ≡ cond (t p) 1 0 → total + one ≡ count t from (p + 1 - from)
+more : (t : ℕ → Bool) (from p total one : ℕ) → from ≤ p → total ≡ count t from (p - from) → one ≡ cond (t p) 1 0
+    → total + one ≡ count t from (p + 1 - from)
 more t from p total one h e f =
     let a : from + (p - from) ≡ p = omega arith in
     let b : p - from + 1 ≡ p + 1 - from = omega arith in
@@ -40,10 +41,15 @@ S c = c .before .before .before .before
 
 next : (c : tie.After-test-one Inv-loop μ-loop)
     → L c .loop .total + c .test-one .result ≡ count (held (S c .args .map .now)) (S c .args .from) (L c .loop .p + 1 - S c .args .from)
-next c = more (held (S c .args .map .now)) (S c .args .from) (L c .loop .p) (L c .loop .total) (c .test-one .result) (L c .loop .inv .0) (L c .loop .inv .2) (c .test-one .ensures)
+next c =
+    more (held (S c .args .map .now)) (S c .args .from) (L c .loop .p) (L c .loop .total) (c .test-one .result) (L c .loop .inv .0)
+    (L c .loop .inv .2) (c .test-one .ensures)
 
 add-total : tie.Need-add-total Inv-loop μ-loop
-add-total c = let e = next c in let most = count-most (held (S c .args .map .now)) (S c .args .from) (L c .loop .p + 1 - S c .args .from) in omega (arith, e, most)
+add-total c =
+    let e = next c in
+    let most = count-most (held (S c .args .map .now)) (S c .args .from) (L c .loop .p + 1 - S c .args .from) in
+    omega (arith, e, most)
 
 add-p : tie.Need-add-p Inv-loop μ-loop
 add-p c = omega arith
@@ -55,7 +61,11 @@ loop-again : tie.Need-loop-again Inv-loop μ-loop
 loop-again c = (omega arith, omega arith, next c)
 
 returns : tie.Need-returns Inv-loop μ-loop
-returns c = c .before .loop .inv .2 ∙ ap (λ (p : ℕ). count (held (c .before .before .before .args .map .now)) (c .before .before .before .args .from) (p - c .before .before .before .args .from)) (omega arith)
+returns c =
+    c .before .loop .inv .2
+    ∙ ap
+    (λ (p : ℕ). count (held (c .before .before .before .args .map .now)) (c .before .before .before .args .from) (p - c .before .before .before .args .from))
+    (omega arith)
 
 pub count-rest-spec : {M : Type 1} → statement M
 count-rest-spec =

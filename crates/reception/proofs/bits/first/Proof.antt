@@ -57,10 +57,16 @@ add-result : tie.Need-add-result Inv-loop μ-loop
 add-result c = omega arith
 
 returns : tie.Need-returns Inv-loop μ-loop
-returns c = let d = c .before .before in stops (S d .args .map .now) (all d) (S d .args .side) (L d .loop .p) _ (rest d) (d .lowest-set .result) (d .lowest-set .ensures) (S d .args .from) (L d .loop .inv .0) (L d .loop .inv .2) (S d .args .n) (c .before .if1 .taken) (c .if2 .taken)
+returns c =
+    let d = c .before .before in
+    stops (S d .args .map .now) (all d) (S d .args .side) (L d .loop .p) _ (rest d) (d .lowest-set .result) (d .lowest-set .ensures) (S d .args .from)
+    (L d .loop .inv .0) (L d .loop .inv .2) (S d .args .n) (c .before .if1 .taken) (c .if2 .taken)
 
 returns-2 : tie.Need-returns-2 Inv-loop μ-loop
-returns-2 c = let d = c .before .before in stops-short (S d .args .map .now) (all d) (S d .args .side) (L d .loop .p) _ (rest d) (d .lowest-set .result) (d .lowest-set .ensures) (S d .args .from) (L d .loop .inv .0) (L d .loop .inv .2) (S d .args .n) (c .before .if1 .taken) (omega arith) (omega arith)
+returns-2 c =
+    let d = c .before .before in
+    stops-short (S d .args .map .now) (all d) (S d .args .side) (L d .loop .p) _ (rest d) (d .lowest-set .result) (d .lowest-set .ensures)
+    (S d .args .from) (L d .loop .inv .0) (L d .loop .inv .2) (S d .args .n) (c .before .if1 .taken) (omega arith) (omega arith)
 
 mul-p : tie.Need-mul-p Inv-loop μ-loop
 mul-p c = omega arith
@@ -72,10 +78,19 @@ loop-less : tie.Need-loop-less Inv-loop μ-loop
 loop-less c = omega arith
 
 loop-again : tie.Need-loop-again Inv-loop μ-loop
-loop-again c = let d = c .before in (omega arith, omega arith, goes-on (S d .args .map .now) (all d) (S d .args .side) (L d .loop .p) _ (rest d) (d .lowest-set .result) (d .lowest-set .ensures) (S d .args .from) (L d .loop .inv .0) (L d .loop .inv .2) (omega arith))
+loop-again c =
+    let d = c .before in (
+      omega arith,
+      omega arith,
+      goes-on (S d .args .map .now) (all d) (S d .args .side) (L d .loop .p) _ (rest d) (d .lowest-set .result) (d .lowest-set .ensures)
+          (S d .args .from) (L d .loop .inv .0) (L d .loop .inv .2) (omega arith),
+    )
 
 returns-3 : tie.Need-returns-3 Inv-loop μ-loop
-returns-3 c = let s = c .before .before .before in ends (s .args .map .now) (λ i. c .before .before .shared-slice-known .given i .fits) (s .args .side) (s .args .from) (s .args .n) (c .before .loop .p) (omega arith) (omega arith) (c .before .loop .inv .2)
+returns-3 c =
+    let s = c .before .before .before in
+    ends (s .args .map .now) (λ i. c .before .before .shared-slice-known .given i .fits) (s .args .side) (s .args .from) (s .args .n)
+    (c .before .loop .p) (omega arith) (omega arith) (c .before .loop .inv .2)
 
 pub first-spec : {M : Type 1} → statement M
 first-spec =

@@ -23,7 +23,14 @@ abbrev K : tie.Then1 → tie.Start
 K c = c .before .before .before .before .before
 
 returns : tie.Need-returns
-returns c = let s = K c in let x = s .args in (byte-nothing (x .map .now) (x .theirs) (x .from) (x .end) (s .pre .0) (s .pre .1) (s .pre .2) (s .pre .3) (λ i. c .before .slice-known3 .given i .fits) (s .pre .6) (c .if1 .taken), byte-not-copied (x .map .now) (x .theirs) (x .from) (x .end) (s .pre .0) (s .pre .1) (s .pre .2) (s .pre .3) (λ i. c .before .slice-known3 .given i .fits) (s .pre .6) (c .if1 .taken) (x .bytes .now) (x .buffer .now))
+returns c =
+    let s = K c in
+    let x = s .args in (
+      byte-nothing (x .map .now) (x .theirs) (x .from) (x .end) (s .pre .0) (s .pre .1) (s .pre .2) (s .pre .3)
+          (λ i. c .before .slice-known3 .given i .fits) (s .pre .6) (c .if1 .taken),
+      byte-not-copied (x .map .now) (x .theirs) (x .from) (x .end) (s .pre .0) (s .pre .1) (s .pre .2) (s .pre .3)
+          (λ i. c .before .slice-known3 .given i .fits) (s .pre .6) (c .if1 .taken) (x .bytes .now) (x .buffer .now),
+    )
 
 slice-write-map : tie.Need-slice-write-map
 slice-write-map c = search needs
@@ -41,7 +48,17 @@ same-length-2 : tie.Need-same-length-2
 same-length-2 c = search needs
 
 returns-2 : tie.Need-returns-2
-returns-2 c = let s = c .before .before .before .before .before .before .before .before .before .before in let x = s .args in let all : AllBytes (x .map .now) = λ i. c .before .before .before .before .before .before .slice-known3 .given i .fits in (subst (λ (r : ℕ). MapRun (x .map .now) (λ q. isSet (x .theirs) (q - x .from)) (x .from) (x .end - x .from) (set (x .map .now) (x .from / 8) (bitOr (byteAt (x .map .now) (x .from / 8)) (x .theirs))) r) (sym (c .count-set .ensures)) (byte-held (x .map .now) (x .theirs) (x .from) (x .end) (s .pre .0) (s .pre .1) (s .pre .2) (s .pre .3) all (s .pre .6)), byte-copied (x .map .now) (x .theirs) (x .from) (x .end) (s .pre .0) (s .pre .1) (s .pre .2) (s .pre .3) all (s .pre .6) (x .bytes .now) (x .buffer .now) _ (c .before .before .before .copy .ensures))
+returns-2 c =
+    let s = c .before .before .before .before .before .before .before .before .before .before in
+    let x = s .args in
+    let all : AllBytes (x .map .now) = λ i. c .before .before .before .before .before .before .slice-known3 .given i .fits in (
+      subst
+          (λ (r : ℕ). MapRun (x .map .now) (λ q. isSet (x .theirs) (q - x .from)) (x .from) (x .end - x .from) (set (x .map .now) (x .from / 8) (bitOr (byteAt (x .map .now) (x .from / 8)) (x .theirs))) r)
+          (sym (c .count-set .ensures))
+          (byte-held (x .map .now) (x .theirs) (x .from) (x .end) (s .pre .0) (s .pre .1) (s .pre .2) (s .pre .3) all (s .pre .6)),
+      byte-copied (x .map .now) (x .theirs) (x .from) (x .end) (s .pre .0) (s .pre .1) (s .pre .2) (s .pre .3) all (s .pre .6) (x .bytes .now)
+          (x .buffer .now) _ (c .before .before .before .copy .ensures),
+    )
 
 pub add-byte-spec : {M : Type 1} → statement M
 add-byte-spec =

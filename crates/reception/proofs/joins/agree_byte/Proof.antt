@@ -18,7 +18,10 @@ abbrev μ-loop : tie.MeasureT-loop
 μ-loop both buffer bytes from end p₀ p = end - p
 
 returns : tie.Need-returns Inv-loop μ-loop
-returns c = let s = c .before .before .before in sym (all-if (bytesAgree (s .args .both) (s .args .buffer .now) (s .args .bytes .now) (s .args .from)) (s .args .from) (s .args .end - s .args .from) (λ q _ _. none-compared (s .args .both) (s .args .buffer .now) (s .args .bytes .now) (s .args .from) q (c .if1 .taken)))
+returns c =
+    let s = c .before .before .before in
+    sym
+    (all-if (bytesAgree (s .args .both) (s .args .buffer .now) (s .args .bytes .now) (s .args .from)) (s .args .from) (s .args .end - s .args .from) (λ q _ _. none-compared (s .args .both) (s .args .buffer .now) (s .args .bytes .now) (s .args .from) q (c .if1 .taken)))
 
 loop-holds : tie.Need-loop-holds Inv-loop μ-loop
 loop-holds c = (omega arith, omega arith, λ q l g. absurd (no-between (c .before .before .before .args .from) q l g))
@@ -27,7 +30,11 @@ agrees-at-requires : tie.Need-agrees-at-requires Inv-loop μ-loop
 agrees-at-requires c κs = (omega arith, omega arith, omega arith, omega arith)
 
 returns-2 : tie.Need-returns-2 Inv-loop μ-loop
-returns-2 c = let s = c .before .before .before .before .before .before .before in let l = c .before .before .before in sym (not-all (bytesAgree (s .args .both) (s .args .buffer .now) (s .args .bytes .now) (s .args .from)) (s .args .from) (s .args .end - s .args .from) (l .loop .p) (l .loop .inv .0) (omega arith) (sym (c .before .agrees-at .ensures) ∙ not-true (c .before .agrees-at .result) (c .if2 .taken)))
+returns-2 c =
+    let s = c .before .before .before .before .before .before .before in
+    let l = c .before .before .before in
+    sym
+    (not-all (bytesAgree (s .args .both) (s .args .buffer .now) (s .args .bytes .now) (s .args .from)) (s .args .from) (s .args .end - s .args .from) (l .loop .p) (l .loop .inv .0) (omega arith) (sym (c .before .agrees-at .ensures) ∙ not-true (c .before .agrees-at .result) (c .if2 .taken)))
 
 add-p : tie.Need-add-p Inv-loop μ-loop
 add-p c = omega arith
@@ -36,10 +43,20 @@ loop-less : tie.Need-loop-less Inv-loop μ-loop
 loop-less c = omega arith
 
 loop-again : tie.Need-loop-again Inv-loop μ-loop
-loop-again c = let s = c .before .before .before .before .before .before .before in let l = c .before .before .before in (omega arith, omega arith, one-more (bytesAgree (s .args .both) (s .args .buffer .now) (s .args .bytes .now) (s .args .from)) (s .args .from) (l .loop .p) (l .loop .inv .2) (sym (c .before .agrees-at .ensures) ∙ not-false (c .before .agrees-at .result) (c .if2 .left)))
+loop-again c =
+    let s = c .before .before .before .before .before .before .before in
+    let l = c .before .before .before in (
+      omega arith,
+      omega arith,
+      one-more (bytesAgree (s .args .both) (s .args .buffer .now) (s .args .bytes .now) (s .args .from)) (s .args .from) (l .loop .p)
+          (l .loop .inv .2) (sym (c .before .agrees-at .ensures) ∙ not-false (c .before .agrees-at .result) (c .if2 .left)),
+    )
 
 returns-3 : tie.Need-returns-3 Inv-loop μ-loop
-returns-3 c = let s = c .before .before .before .before .before in sym (all-if (bytesAgree (s .args .both) (s .args .buffer .now) (s .args .bytes .now) (s .args .from)) (s .args .from) (s .args .end - s .args .from) (λ q l g. c .before .loop .inv .2 q l (omega arith)))
+returns-3 c =
+    let s = c .before .before .before .before .before in
+    sym
+    (all-if (bytesAgree (s .args .both) (s .args .buffer .now) (s .args .bytes .now) (s .args .from)) (s .args .from) (s .args .end - s .args .from) (λ q l g. c .before .loop .inv .2 q l (omega arith)))
 
 pub agree-byte-spec : {M : Type 1} → statement M
 agree-byte-spec =

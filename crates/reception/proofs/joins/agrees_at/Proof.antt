@@ -14,7 +14,10 @@ is-set-requires : tie.Need-is-set-requires
 is-set-requires c κs = search needs
 
 returns : tie.Need-returns
-returns c = let s = c .before .before .before .before in sym (bit-free (s .args .both) (s .args .buffer .now) (s .args .bytes .now) (s .args .from) (s .args .p) (sym (c .before .is-set .ensures) ∙ not-true (c .before .is-set .result) (c .if1 .taken)))
+returns c =
+    let s = c .before .before .before .before in
+    sym
+    (bit-free (s .args .both) (s .args .buffer .now) (s .args .bytes .now) (s .args .from) (s .args .p) (sym (c .before .is-set .ensures) ∙ not-true (c .before .is-set .result) (c .if1 .taken)))
 
 shared-slice-read-result : tie.Need-shared-slice-read-result
 shared-slice-read-result c = search needs
@@ -23,7 +26,10 @@ shared-slice-read-result-2 : tie.Need-shared-slice-read-result-2
 shared-slice-read-result-2 c = search needs
 
 returns-2 : tie.Need-returns-2
-returns-2 c = let s = c .before .before .before .before .before .before in bit-compared (s .args .both) (s .args .buffer .now) (s .args .bytes .now) (s .args .from) (s .args .p) (sym (c .before .before .before .is-set .ensures) ∙ not-false (c .before .before .before .is-set .result) (c .before .before .if1 .left))
+returns-2 c =
+    let s = c .before .before .before .before .before .before in
+    bit-compared (s .args .both) (s .args .buffer .now) (s .args .bytes .now) (s .args .from) (s .args .p)
+    (sym (c .before .before .before .is-set .ensures) ∙ not-false (c .before .before .before .is-set .result) (c .before .before .if1 .left))
 
 pub agrees-at-spec : {M : Type 1} → statement M
 agrees-at-spec =

@@ -26,7 +26,9 @@ abbrev μ-loop : tie.MeasureT-loop
 μ-loop buffer₀ bytes new from end p₀ buffer p = end - p
 
 loop-holds : tie.Need-loop-holds Inv-loop μ-loop
-loop-holds c = let s = c .before .before in (omega arith, omega arith, none (λ q. isSet (s .args .new) (q - s .args .from)) (s .args .bytes .now) (s .args .buffer .now) (s .args .from))
+loop-holds c =
+    let s = c .before .before in
+    (omega arith, omega arith, none (λ q. isSet (s .args .new) (q - s .args .from)) (s .args .bytes .now) (s .args .buffer .now) (s .args .from))
 
 copy-at-requires : tie.Need-copy-at-requires Inv-loop μ-loop
 copy-at-requires c κs = let e = c .before .before .loop .inv .2 .long in (omega arith, omega arith, omega (arith, e), omega arith)
@@ -38,13 +40,25 @@ loop-less : tie.Need-loop-less Inv-loop μ-loop
 loop-less c = omega arith
 
 loop-again : tie.Need-loop-again Inv-loop μ-loop
-loop-again c = let l = c .before .before .before .before .before in let s = c .before .before .before .before .before .before .before .before in (omega arith, omega arith, copy-next (λ q. isSet (s .args .new) (q - s .args .from)) (s .args .bytes .now) (s .args .buffer .now) (s .args .from) (l .loop .p) (l .loop .buffer) 1 _ (l .loop .inv .0) (l .loop .inv .2) (c .before .before .copy-at .ensures))
+loop-again c =
+    let l = c .before .before .before .before .before in
+    let s = c .before .before .before .before .before .before .before .before in (
+      omega arith,
+      omega arith,
+      copy-next (λ q. isSet (s .args .new) (q - s .args .from)) (s .args .bytes .now) (s .args .buffer .now) (s .args .from) (l .loop .p)
+          (l .loop .buffer) 1 _ (l .loop .inv .0) (l .loop .inv .2) (c .before .before .copy-at .ensures),
+    )
 
 same-length : tie.Need-same-length Inv-loop μ-loop
 same-length c = c .before .loop .inv .2 .long
 
 returns : tie.Need-returns Inv-loop μ-loop
-returns c = let s = c .before .before .before .before in let e : c .before .loop .p ≡ s .args .end = omega arith in subst (λ (p : ℕ). BufferRun (λ q. isSet (s .args .new) (q - s .args .from)) (s .args .bytes .now) (s .args .buffer .now) (s .args .from) (p - s .args .from) (c .before .loop .buffer)) e (c .before .loop .inv .2)
+returns c =
+    let s = c .before .before .before .before in
+    let e : c .before .loop .p ≡ s .args .end = omega arith in
+    subst
+    (λ (p : ℕ). BufferRun (λ q. isSet (s .args .new) (q - s .args .from)) (s .args .bytes .now) (s .args .buffer .now) (s .args .from) (p - s .args .from) (c .before .loop .buffer)) e
+    (c .before .loop .inv .2)
 
 pub copy-spec : {M : Type 1} → statement M
 copy-spec =

@@ -29,10 +29,16 @@ same-length : tie.Need-same-length
 same-length c = search needs
 
 returns : tie.Need-returns
-returns c = let s = c .before .before .before .before .before in copy-one (λ q. isSet (s .args .new) (q - s .args .from)) (s .args .bytes .now) (s .args .buffer .now) (s .args .p) (omega arith) (sym (c .before .before .is-set .ensures) ∙ c .before .if1 .taken)
+returns c =
+    let s = c .before .before .before .before .before in
+    copy-one (λ q. isSet (s .args .new) (q - s .args .from)) (s .args .bytes .now) (s .args .buffer .now) (s .args .p) (omega arith)
+    (sym (c .before .before .is-set .ensures) ∙ c .before .if1 .taken)
 
 returns-2 : tie.Need-returns-2
-returns-2 c = let s = c .before .before .before .before in copy-nothing (λ q. isSet (s .args .new) (q - s .args .from)) (s .args .bytes .now) (s .args .buffer .now) (s .args .p) 1 (λ q l g. only (s .args .new) (s .args .from) (s .args .p) q (sym (c .before .is-set .ensures) ∙ c .if1 .left) l g)
+returns-2 c =
+    let s = c .before .before .before .before in
+    copy-nothing (λ q. isSet (s .args .new) (q - s .args .from)) (s .args .bytes .now) (s .args .buffer .now) (s .args .p) 1
+    (λ q l g. only (s .args .new) (s .args .from) (s .args .p) q (sym (c .before .is-set .ensures) ∙ c .if1 .left) l g)
 
 pub copy-at-spec : {M : Type 1} → statement M
 copy-at-spec =

@@ -24,7 +24,9 @@ sub-result : tie.Need-sub-result
 sub-result c = let e = one-shl (c .before .args .k) (omega arith) in let h = pow-pos (c .before .args .k) in omega (arith, e, h)
 
 returns-2 : tie.Need-returns-2
-returns-2 c = ap (λ (x : ℕ). bitAnd (c .before .args .b) (x - 1)) (one-shl (c .before .args .k) (omega arith)) ∙ and-mask (c .before .args .b) (c .before .args .k)
+returns-2 c =
+    ap (λ (x : ℕ). bitAnd (c .before .args .b) (x - 1)) (one-shl (c .before .args .k) (omega arith))
+    ∙ and-mask (c .before .args .b) (c .before .args .k)
 
 pub lowest-spec : {M : Type 1} → statement M
 lowest-spec = tie.close (tie.spec returns cast-result shl-result sub-result returns-2)

@@ -28,7 +28,11 @@ agrees-at-requires : tie.Need-agrees-at-requires Inv-loop μ-loop
 agrees-at-requires c κs = (omega arith, omega arith, omega arith, omega arith)
 
 returns : tie.Need-returns Inv-loop μ-loop
-returns c = let s = c .before .before .before .before .before .before .before in let l = c .before .before .before in sym (not-all (pieceAgrees (s .args .map .now) (s .args .buffer .now) (s .args .at) (s .args .piece .now)) (s .args .at) (length (s .args .piece .now)) (l .loop .p) (l .loop .inv .0) (c .before .before .loop-test .taken) (sym (c .before .agrees-at .ensures) ∙ not-true (c .before .agrees-at .result) (c .if1 .taken)))
+returns c =
+    let s = c .before .before .before .before .before .before .before in
+    let l = c .before .before .before in
+    sym
+    (not-all (pieceAgrees (s .args .map .now) (s .args .buffer .now) (s .args .at) (s .args .piece .now)) (s .args .at) (length (s .args .piece .now)) (l .loop .p) (l .loop .inv .0) (c .before .before .loop-test .taken) (sym (c .before .agrees-at .ensures) ∙ not-true (c .before .agrees-at .result) (c .if1 .taken)))
 
 ahead-requires : tie.Need-ahead-requires Inv-loop μ-loop
 ahead-requires c κs = omega arith
@@ -39,7 +43,8 @@ L c = c .before .before .before .before
 abbrev S : tie.After-ahead Inv-loop μ-loop → tie.Start Inv-loop μ-loop
 S c = c .before .before .before .before .before .before .before .before
 
-some : (c : tie.After-ahead Inv-loop μ-loop) → (1 ≤ emptyAhead (S c .args .map .now) (L c .loop .p)) × (emptyAhead (S c .args .map .now) (L c .loop .p) ≤ 8)
+some : (c : tie.After-ahead Inv-loop μ-loop)
+    → (1 ≤ emptyAhead (S c .args .map .now) (L c .loop .p)) × (emptyAhead (S c .args .map .now) (L c .loop .p) ≤ 8)
 some c = ahead-some (S c .args .map .now) (L c .loop .p)
 
 add-p : tie.Need-add-p Inv-loop μ-loop
@@ -49,10 +54,20 @@ loop-less : tie.Need-loop-less Inv-loop μ-loop
 loop-less c = let a = some c in let e = c .ahead .ensures in omega (arith, a, e)
 
 loop-again : tie.Need-loop-again Inv-loop μ-loop
-loop-again c = let a = some c in let e = c .ahead .ensures in (omega (arith, a, e), omega (arith, a, e), rw e (agrees-on (S c .args .map .now) (S c .args .buffer .now) (S c .args .at) (S c .args .piece .now) (L c .loop .p) (L c .loop .inv .2) (sym (c .before .before .agrees-at .ensures) ∙ not-false (c .before .before .agrees-at .result) (c .before .if1 .left))))
+loop-again c =
+    let a = some c in
+    let e = c .ahead .ensures in (
+      omega (arith, a, e),
+      omega (arith, a, e),
+      rw e
+          (agrees-on (S c .args .map .now) (S c .args .buffer .now) (S c .args .at) (S c .args .piece .now) (L c .loop .p) (L c .loop .inv .2) (sym (c .before .before .agrees-at .ensures) ∙ not-false (c .before .before .agrees-at .result) (c .before .if1 .left))),
+    )
 
 returns-2 : tie.Need-returns-2 Inv-loop μ-loop
-returns-2 c = let s = c .before .before .before .before .before in sym (all-if (pieceAgrees (s .args .map .now) (s .args .buffer .now) (s .args .at) (s .args .piece .now)) (s .args .at) (length (s .args .piece .now)) (λ q l g. c .before .loop .inv .2 q l (omega arith)))
+returns-2 c =
+    let s = c .before .before .before .before .before in
+    sym
+    (all-if (pieceAgrees (s .args .map .now) (s .args .buffer .now) (s .args .at) (s .args .piece .now)) (s .args .at) (length (s .args .piece .now)) (λ q l g. c .before .loop .inv .2 q l (omega arith)))
 
 pub agree-spec : {M : Type 1} → statement M
 agree-spec =

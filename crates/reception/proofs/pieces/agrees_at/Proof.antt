@@ -11,7 +11,10 @@ test-requires : tie.Need-test-requires
 test-requires c κs = search needs
 
 returns : tie.Need-returns
-returns c = let s = c .before .before .before .before .before in sym (free-agrees (s .args .map .now) (s .args .buffer .now) (s .args .at) (s .args .piece .now) (s .args .p) (sym (c .before .test .ensures) ∙ not-true (c .before .test .result) (c .if1 .taken)))
+returns c =
+    let s = c .before .before .before .before .before in
+    sym
+    (free-agrees (s .args .map .now) (s .args .buffer .now) (s .args .at) (s .args .piece .now) (s .args .p) (sym (c .before .test .ensures) ∙ not-true (c .before .test .result) (c .if1 .taken)))
 
 shared-slice-read-result : tie.Need-shared-slice-read-result
 shared-slice-read-result c = search needs
@@ -23,7 +26,10 @@ shared-slice-read-result-2 : tie.Need-shared-slice-read-result-2
 shared-slice-read-result-2 c = search needs
 
 returns-2 : tie.Need-returns-2
-returns-2 c = let s = c .before .before .before .before .before .before .before in held-agrees (s .args .map .now) (s .args .buffer .now) (s .args .at) (s .args .piece .now) (s .args .p) (sym (c .before .before .before .test .ensures) ∙ not-false (c .before .before .before .test .result) (c .before .before .if1 .left))
+returns-2 c =
+    let s = c .before .before .before .before .before .before .before in
+    held-agrees (s .args .map .now) (s .args .buffer .now) (s .args .at) (s .args .piece .now) (s .args .p)
+    (sym (c .before .before .before .test .ensures) ∙ not-false (c .before .before .before .test .result) (c .before .before .if1 .left))
 
 pub agrees-at-spec : {M : Type 1} → statement M
 agrees-at-spec =

@@ -13,13 +13,21 @@ shared-slice-read-if2 : tie.Need-shared-slice-read-if2
 shared-slice-read-if2 c = search needs
 
 returns : tie.Need-returns
-returns c = let s = c .before .before .before in eight (eqb (s .args .p % 8) 0) (eqb (byteAt (s .args .map .now) (s .args .p / 8)) 0) (eq-eqb _ 0 (c .before .before .if1 .taken)) (eq-eqb _ 0 (c .if2 .taken))
+returns c =
+    let s = c .before .before .before in
+    eight (eqb (s .args .p % 8) 0) (eqb (byteAt (s .args .map .now) (s .args .p / 8)) 0) (eq-eqb _ 0 (c .before .before .if1 .taken))
+    (eq-eqb _ 0 (c .if2 .taken))
 
 returns-2 : tie.Need-returns-2
-returns-2 c = let s = c .before .before .before in one-second (eqb (s .args .p % 8) 0) (eqb (byteAt (s .args .map .now) (s .args .p / 8)) 0) (eq-eqb _ 0 (c .before .before .if1 .taken)) (ne-eqb _ 0 (c .if2 .left))
+returns-2 c =
+    let s = c .before .before .before in
+    one-second (eqb (s .args .p % 8) 0) (eqb (byteAt (s .args .map .now) (s .args .p / 8)) 0) (eq-eqb _ 0 (c .before .before .if1 .taken))
+    (ne-eqb _ 0 (c .if2 .left))
 
 returns-3 : tie.Need-returns-3
-returns-3 c = let s = c .before in one-first (eqb (s .args .p % 8) 0) (eqb (byteAt (s .args .map .now) (s .args .p / 8)) 0) (ne-eqb _ 0 (c .if1 .left))
+returns-3 c =
+    let s = c .before in
+    one-first (eqb (s .args .p % 8) 0) (eqb (byteAt (s .args .map .now) (s .args .p / 8)) 0) (ne-eqb _ 0 (c .if1 .left))
 
 pub ahead-spec : {M : Type 1} → statement M
 ahead-spec = tie.close (tie.spec shared-slice-read-if2 returns returns-2 returns-3)

@@ -51,25 +51,47 @@ few c = (
 )
 
 add-new : tie.Need-add-new Inv-loop μ-loop
-add-new c = let a = few c in let f = span-fits (L c .loop .p) (S c .args .at + S c .args .n) (c .before .before .before .before .loop-test .taken) in omega (arith, a, f)
+add-new c =
+    let a = few c in
+    let f = span-fits (L c .loop .p) (S c .args .at + S c .args .n) (c .before .before .before .before .loop-test .taken) in
+    omega (arith, a, f)
 
 span-requires : tie.Need-span-requires Inv-loop μ-loop
 span-requires c κs = (omega arith, omega arith)
 
 add-p : tie.Need-add-p Inv-loop μ-loop
-add-p c = let e = c .span .ensures in let f = span-fits (LS c .loop .p) _ (c .before .before .before .before .before .loop-test .taken) in omega (arith, e, f)
+add-p c =
+    let e = c .span .ensures in
+    let f = span-fits (LS c .loop .p) _ (c .before .before .before .before .before .loop-test .taken) in
+    omega (arith, e, f)
 
 loop-less : tie.Need-loop-less Inv-loop μ-loop
-loop-less c = let e = c .span .ensures in let f = span-fits (LS c .loop .p) _ (c .before .before .before .before .before .loop-test .taken) in omega (arith, e, f)
+loop-less c =
+    let e = c .span .ensures in
+    let f = span-fits (LS c .loop .p) _ (c .before .before .before .before .before .loop-test .taken) in
+    omega (arith, e, f)
 
 loop-again : tie.Need-loop-again Inv-loop μ-loop
-loop-again c = let e = c .span .ensures in let f = span-fits (LS c .loop .p) _ (c .before .before .before .before .before .loop-test .taken) in let s = S (c .before) in let h = c .before .before .before .hold-next in (omega (arith, e, f), omega (arith, e, f), rw e (run-next (s .args .map .now) (λ q. true) (s .args .at) (LS c .loop .p) (LS c .loop .map) (LS c .loop .new) (spanAt (LS c .loop .p) (s .args .at + s .args .n)) _ (h .result) (LS c .loop .inv .0) (LS c .loop .inv .2) (h .ensures)))
+loop-again c =
+    let e = c .span .ensures in
+    let f = span-fits (LS c .loop .p) _ (c .before .before .before .before .before .loop-test .taken) in
+    let s = S (c .before) in
+    let h = c .before .before .before .hold-next in (
+      omega (arith, e, f),
+      omega (arith, e, f),
+      rw e
+          (run-next (s .args .map .now) (λ q. true) (s .args .at) (LS c .loop .p) (LS c .loop .map) (LS c .loop .new) (spanAt (LS c .loop .p) (s .args .at + s .args .n)) _ (h .result) (LS c .loop .inv .0) (LS c .loop .inv .2) (h .ensures)),
+    )
 
 same-length : tie.Need-same-length Inv-loop μ-loop
 same-length c = c .before .loop .inv .2 .long
 
 returns : tie.Need-returns Inv-loop μ-loop
-returns c = let s = c .before .before .before in let e : c .before .loop .p - s .args .at ≡ s .args .n = omega arith in subst (λ (k : ℕ). MapRun (s .args .map .now) (λ q. true) (s .args .at) k (c .before .loop .map) (c .before .loop .new)) e (c .before .loop .inv .2)
+returns c =
+    let s = c .before .before .before in
+    let e : c .before .loop .p - s .args .at ≡ s .args .n = omega arith in
+    subst (λ (k : ℕ). MapRun (s .args .map .now) (λ q. true) (s .args .at) k (c .before .loop .map) (c .before .loop .new)) e
+    (c .before .loop .inv .2)
 
 pub hold-spec : {M : Type 1} → statement M
 hold-spec =

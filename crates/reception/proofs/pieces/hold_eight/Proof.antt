@@ -18,13 +18,19 @@ slice-write-map : tie.Need-slice-write-map
 slice-write-map c = search needs
 
 sub-result : tie.Need-sub-result
-sub-result c = let s = c .before .before .before in let most = ones-le 8 (byteAt (s .args .map .now) (s .args .i)) (c .before .slice-known2 .given (s .args .i) .fits) in let e = c .count-set .ensures in omega (arith, most, e)
+sub-result c =
+    let s = c .before .before .before in
+    let most = ones-le 8 (byteAt (s .args .map .now) (s .args .i)) (c .before .slice-known2 .given (s .args .i) .fits) in
+    let e = c .count-set .ensures in
+    omega (arith, most, e)
 
 same-length : tie.Need-same-length
 same-length c = search needs
 
 returns : tie.Need-returns
-returns c = let s = c .before .before .before in rw (c .count-set .ensures) (run-eight (s .args .map .now) (s .args .i) (s .pre) (λ i. c .before .slice-known2 .given i .fits))
+returns c =
+    let s = c .before .before .before in
+    rw (c .count-set .ensures) (run-eight (s .args .map .now) (s .args .i) (s .pre) (λ i. c .before .slice-known2 .given i .fits))
 
 pub hold-eight-spec : {M : Type 1} → statement M
 hold-eight-spec =

@@ -11,7 +11,8 @@ use Rattle.reception.proofs.Steps.{span-eight, span-else}
 use Rattle.reception.proofs.pieces.hold_next.Statement.{statement}
 use Rattle.reception.proofs.pieces.hold_next.Tie as tie
 
-whole : (m : List ℕ) (p end : ℕ) (m′ : List ℕ) (r : ℕ) → spanAt p end ≡ 8 → MapRun m (λ q. true) (p / 8 * 8) 8 m′ r → MapRun m (λ q. true) p (spanAt p end) m′ r
+whole : (m : List ℕ) (p end : ℕ) (m′ : List ℕ) (r : ℕ) → spanAt p end ≡ 8 → MapRun m (λ q. true) (p / 8 * 8) 8 m′ r
+    → MapRun m (λ q. true) p (spanAt p end) m′ r
 whole m p end m′ r e run =
     let a = span-eight p end e .0 in
     let b : p / 8 * 8 ≡ p = omega (arith, a) in
@@ -27,7 +28,10 @@ same-length : tie.Need-same-length
 same-length c = search needs
 
 returns : tie.Need-returns
-returns c = let s = c .before .before .before .before .before .before .before in let e : spanAt (s .args .p) (s .args .end) ≡ 8 = sym (c .before .before .before .before .before .span .ensures) ∙ c .before .before .before .before .if1 .taken in whole (s .args .map .now) (s .args .p) (s .args .end) _ _ e (c .before .before .hold-eight .ensures)
+returns c =
+    let s = c .before .before .before .before .before .before .before in
+    let e : spanAt (s .args .p) (s .args .end) ≡ 8 = sym (c .before .before .before .before .before .span .ensures) ∙ c .before .before .before .before .if1 .taken in
+    whole (s .args .map .now) (s .args .p) (s .args .end) _ _ e (c .before .before .hold-eight .ensures)
 
 hold-one-requires : tie.Need-hold-one-requires
 hold-one-requires c κs = search needs
@@ -36,7 +40,10 @@ same-length-2 : tie.Need-same-length-2
 same-length-2 c = search needs
 
 returns-2 : tie.Need-returns-2
-returns-2 c = let s = c .before .before .before .before .before .before .before in let e : spanAt (s .args .p) (s .args .end) ≡ 1 = span-else (s .args .p) (s .args .end) (λ f. c .before .before .before .before .if1 .left (c .before .before .before .before .before .span .ensures ∙ f)) in rw e (c .before .before .hold-one .ensures)
+returns-2 c =
+    let s = c .before .before .before .before .before .before .before in
+    let e : spanAt (s .args .p) (s .args .end) ≡ 1 = span-else (s .args .p) (s .args .end) (λ f. c .before .before .before .before .if1 .left (c .before .before .before .before .before .span .ensures ∙ f)) in
+    rw e (c .before .before .hold-one .ensures)
 
 pub hold-next-spec : {M : Type 1} → statement M
 hold-next-spec =

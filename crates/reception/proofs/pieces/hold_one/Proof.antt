@@ -24,13 +24,20 @@ same-length : tie.Need-same-length
 same-length c = search needs
 
 returns : tie.Need-returns
-returns c = let s = c .before .before .before .before .before .before .before .before in run-one (s .args .map .now) (λ q. true) (s .args .p) (c .before .before .mark .last .0) refl (sym (c .before .before .before .before .before .test .ensures) ∙ not-true (c .before .before .before .before .before .test .result) (c .before .before .before .before .if1 .taken)) (c .before .before .mark .ensures)
+returns c =
+    let s = c .before .before .before .before .before .before .before .before in
+    run-one (s .args .map .now) (λ q. true) (s .args .p) (c .before .before .mark .last .0) refl
+    (sym (c .before .before .before .before .before .test .ensures) ∙ not-true (c .before .before .before .before .before .test .result) (c .before .before .before .before .if1 .taken))
+    (c .before .before .mark .ensures)
 
 same-length-2 : tie.Need-same-length-2
 same-length-2 c = search needs
 
 returns-2 : tie.Need-returns-2
-returns-2 c = let s = c .before .before .before .before in run-nothing (s .args .map .now) (λ q. true) (s .args .p) 1 (λ i. c .before .before .before .slice-known .given i .fits) (λ q l g. ap not (ap (held (s .args .map .now)) (only (s .args .p) q l g) ∙ sym (c .before .test .ensures) ∙ not-false (c .before .test .result) (c .if1 .left)))
+returns-2 c =
+    let s = c .before .before .before .before in
+    run-nothing (s .args .map .now) (λ q. true) (s .args .p) 1 (λ i. c .before .before .before .slice-known .given i .fits)
+    (λ q l g. ap not (ap (held (s .args .map .now)) (only (s .args .p) q l g) ∙ sym (c .before .test .ensures) ∙ not-false (c .before .test .result) (c .if1 .left)))
 
 pub hold-one-spec : {M : Type 1} → statement M
 hold-one-spec =

@@ -12,10 +12,14 @@ add-if2 : tie.Need-add-if2
 add-if2 c = search needs
 
 returns : tie.Need-returns
-returns c = let s = c .before .before in eight (eqb (s .args .p % 8) 0) (leb (s .args .p + 8) (s .args .end)) (eq-eqb _ 0 (c .before .if1 .taken)) (le-leb _ _ (c .if2 .taken))
+returns c =
+    let s = c .before .before in
+    eight (eqb (s .args .p % 8) 0) (leb (s .args .p + 8) (s .args .end)) (eq-eqb _ 0 (c .before .if1 .taken)) (le-leb _ _ (c .if2 .taken))
 
 returns-2 : tie.Need-returns-2
-returns-2 c = let s = c .before .before in one-second (eqb (s .args .p % 8) 0) (leb (s .args .p + 8) (s .args .end)) (eq-eqb _ 0 (c .before .if1 .taken)) (lt-leb _ _ (c .if2 .left))
+returns-2 c =
+    let s = c .before .before in
+    one-second (eqb (s .args .p % 8) 0) (leb (s .args .p + 8) (s .args .end)) (eq-eqb _ 0 (c .before .if1 .taken)) (lt-leb _ _ (c .if2 .left))
 
 returns-3 : tie.Need-returns-3
 returns-3 c = let s = c .before in one-first (eqb (s .args .p % 8) 0) (leb (s .args .p + 8) (s .args .end)) (ne-eqb _ 0 (c .if1 .left))

@@ -17,12 +17,15 @@ use Rattle.reception.proofs.pieces.write.Tie as tie
 nothing : (m b : List ℕ) (at : ℕ) (d : List ℕ) (agrees : Bool) → agrees ≡ false → AllOrNothing m b at d agrees m b 0
 nothing m b at d agrees e = rw e (refl, refl)
 
-all : (m b : List ℕ) (at : ℕ) (d : List ℕ) (agrees : Bool) (m′ b′ : List ℕ) (r : ℕ) → agrees ≡ true → MapRun m (λ q. true) at (length d) m′ r → b′ ≡ putIn b at d
+all : (m b : List ℕ) (at : ℕ) (d : List ℕ) (agrees : Bool) (m′ b′ : List ℕ) (r : ℕ) → agrees ≡ true → MapRun m (λ q. true) at (length d) m′ r
+    → b′ ≡ putIn b at d
     → AllOrNothing m b at d agrees m′ b′ r
 all m b at d agrees m′ b′ r e run put = rw e (run, put)
 
 returns : tie.Need-returns
-returns c = let x = c .before .before .before .before .args in nothing (x .map .now) (x .buffer .now) (x .at) (x .piece .now) (x .agrees) (not-true (x .agrees) (c .if1 .taken))
+returns c =
+    let x = c .before .before .before .before .args in
+    nothing (x .map .now) (x .buffer .now) (x .at) (x .piece .now) (x .agrees) (not-true (x .agrees) (c .if1 .taken))
 
 put-requires : tie.Need-put-requires
 put-requires c κs = search needs
@@ -37,7 +40,11 @@ same-length-2 : tie.Need-same-length-2
 same-length-2 c = search needs
 
 returns-2 : tie.Need-returns-2
-returns-2 c = let x = c .before .before .before .before .before .before .before .before .before .before .before .before .args in all (x .map .now) (x .buffer .now) (x .at) (x .piece .now) (x .agrees) _ _ _ (not-false (x .agrees) (c .before .before .before .before .before .before .before .before .if1 .left)) (c .before .before .hold .ensures) (put-fits (x .buffer .now) (x .at) (x .piece .now) _ _ (c .before .before .before .before .before .before .put .ensures) (omega arith) .1)
+returns-2 c =
+    let x = c .before .before .before .before .before .before .before .before .before .before .before .before .args in
+    all (x .map .now) (x .buffer .now) (x .at) (x .piece .now) (x .agrees) _ _ _
+    (not-false (x .agrees) (c .before .before .before .before .before .before .before .before .if1 .left)) (c .before .before .hold .ensures)
+    (put-fits (x .buffer .now) (x .at) (x .piece .now) _ _ (c .before .before .before .before .before .before .put .ensures) (omega arith) .1)
 
 pub write-spec : {M : Type 1} → statement M
 write-spec =
