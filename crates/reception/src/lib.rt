@@ -53,9 +53,8 @@ pub fn open(length: u32, map: &mut [u8], buffer: &mut [u8]) -> Outcome
     if space::short(length, map, buffer) {
         return Outcome::Refused(12);
     }
-    let l = length as usize;
-    space::clear(map, (l + 7) / 8);
-    space::clear(buffer, l);
+    space::clear(map, space::map_size(length));
+    space::clear(buffer, length as usize);
     Outcome::Accepted
 }
 
@@ -137,10 +136,10 @@ pub fn list(length: u32, map: &[u8], place: u32) -> Listed
     if space::wrong_length(length) {
         return Listed::Refused(7);
     }
-    let l = length as usize;
-    if map.len() < (l + 7) / 8 {
+    if space::short_map(length, map) {
         return Listed::Refused(12);
     }
+    let l = length as usize;
     let from = place as usize;
     if l <= from {
         return Listed::Refused(15);

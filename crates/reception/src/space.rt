@@ -3,7 +3,8 @@ use super::LONGEST;
 ghost use mathlib.Core.Path.{_≡_};
 ghost use Prim.Native.Nat.{_≤_};
 ghost use lib.ListN.{length};
-ghost use Rattle.reception.specs.Reception.{wrongLength, shortSpace};
+ghost use Rattle.positions.specs.Map.{mapSize};
+ghost use Rattle.reception.specs.Reception.{wrongLength, shortMap, shortSpace};
 ghost use Rattle.reception.specs.Opening.{cleared};
 
 // Reason 7: whether a length is not 1 to 32,768.
@@ -13,12 +14,25 @@ pub(crate) fn wrong_length(l: u32) -> bool
     !((1 <= l) & (l <= LONGEST))
 }
 
+// How many bytes the map of a file of a length has: L/8, rounded up.
+pub(crate) fn map_size(l: u32) -> usize
+    ensures { λ r. ⌜ r ≡ mapSize l ⌝ }
+{
+    ((l as usize) + 7) / 8
+}
+
+// Reason 12: whether a map is too short for a file of a length.
+pub(crate) fn short_map(l: u32, map: &[u8]) -> bool
+    ensures { λ r. ⌜ r ≡ shortMap l (now (map .entry)) ⌝ }
+{
+    map.len() < map_size(l)
+}
+
 // Reason 12: whether a map or a buffer is too short for a file of a length.
 pub(crate) fn short(l: u32, map: &[u8], buffer: &[u8]) -> bool
     ensures { λ r. ⌜ r ≡ shortSpace l (now (map .entry)) (now (buffer .entry)) ⌝ }
 {
-    let n = l as usize;
-    (map.len() < (n + 7) / 8) | (buffer.len() < n)
+    short_map(l, map) | (buffer.len() < (l as usize))
 }
 
 // The first n bytes become 0.
