@@ -58,6 +58,6 @@ pub record BufferRun (new : ℕ → Bool) (from buffer : List ℕ) (p n : ℕ) (
 
 -- Where a piece agrees, its positions are now held and its bytes written, and r of the positions were not held before; where it does
 -- not, nothing has changed.
-abbrev pub AllOrNothing : List ℕ → List ℕ → ℕ → List ℕ → Bool → List ℕ → List ℕ → ℕ → Type 0
-AllOrNothing map buffer at piece true map′ buffer′ r = MapRun map (λ q. true) at (length piece) map′ r × (buffer′ ≡ putIn buffer at piece)
-AllOrNothing map buffer at piece false map′ buffer′ r = (map′ ≡ map) × (buffer′ ≡ buffer)
+pub record AllOrNothing (map buffer : List ℕ) (at : ℕ) (piece : List ℕ) (agrees : Bool) (map′ buffer′ : List ℕ) (r : ℕ) : Type 0 where
+  pub all : agrees ≡ true → MapRun map (λ q. true) at (length piece) map′ r × (buffer′ ≡ putIn buffer at piece)
+  pub nothing : agrees ≡ false → (map′ ≡ map) × (buffer′ ≡ buffer)

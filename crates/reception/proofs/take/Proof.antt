@@ -1,18 +1,15 @@
 -- `reception::take` meets its contract: the tests in their order, then the positions are marked and the bytes written.
 -- Assumes nothing.
 use mathlib.Core.Path.{_≡_, refl, sym, ap, _∙_}
-use mathlib.Core.Bool.{Bool, true, false}
-use mathlib.Core.List.{List}
+use mathlib.Core.Bool.{true, false}
 use Prim.Native.Nat.{ℕ, _+_, _≤_}
 use native.Mathlib.Omega.{arith}
 use lib.ListN.{length}
 use borrow.Author.Needs.{needs}
-use Rattle.octets.specs.Runs.{putIn}
 use Rattle.positions.specs.Map.{mapSize}
 use Rattle.reception.specs.Reception.{longest, Reception, Piece, wrongLength, shortSpace}
 use Rattle.reason.specs.Answer.{accepted, refused}
 use Rattle.reception.specs.Adding.{ofPiece, agrees, Adds}
-use Rattle.reception.specs.Inner.{MapRun, AllOrNothing}
 use Rattle.reception.specs.Taking.{taking}
 use Rattle.reception.specs.declared.Added.the-variants.{Refused}
 use Rattle.reception.proofs.MarkLaws.{run-map}
@@ -20,14 +17,6 @@ use Rattle.reception.proofs.OfferLaws.{right-length, enough-space, adds
 use Rattle.reception.proofs.GivenReasons.{takes-7, takes-12, takes-9, takes-10, takes-11, takes}
 use Rattle.reception.proofs.take.Statement.{statement}
 use Rattle.reception.proofs.take.Tie as tie
-
--- what the writer did, where the piece agrees and where it does not
-module _ (m b : List ℕ) (at : ℕ) (d : List ℕ) (agrees : Bool) (m′ b′ : List ℕ) (r : ℕ) (w : AllOrNothing m b at d agrees m′ b′ r) where
-  wrote : agrees ≡ true → MapRun m (λ q. true) at (length d) m′ r × (b′ ≡ putIn b at d)
-  wrote e = rw e at w
-
-  left : agrees ≡ false → (m′ ≡ m) × (b′ ≡ b)
-  left e = rw e at w
 
 wrong-length-requires : tie.Need-wrong-length-requires
 wrong-length-requires c κs = search needs
@@ -150,7 +139,8 @@ returns-6 c =
     let w = enough (f .before .before .before) in
     let e = fits f in
     let agree = agreed (c .before .before .before .before .before .before .before .before) ∙ c .if6 .taken in
-    let done = wrote (s k .map) (s k .buffer) (x k .offset) (x k .bytes) (c .before .before .before .before .before .before .before .before .agree .result) _ _ _ (c .before .before .before .before .before .write .ensures) (c .if6 .taken) in
+    let yields = c .if6 .taken in
+    let done = c .before .before .before .before .before .write .ensures .all cc in
     adds-accepted (s k) (ofPiece (x k)) (taking (s k) (x k)) _ _ (c .before .before .before .before .before .write .result)
     (takes (s k) (x k) (right (D (f .before .before .before))) (room (f .before .before .before)) (f .before .before .if3 .left) e agree ∙ ap accepted (sym (done .0 .new)))
     (run-map (s k .map) (λ q. true) (x k .offset) (length (x k .bytes)) _ _ (done .0))
@@ -166,7 +156,8 @@ returns-7 : tie.Need-returns-7
 returns-7 c =
     let f = c .before .before .before .before .before .before .before .before .before .before .before in
     let k = T f in
-    let kept = left (s k .map) (s k .buffer) (x k .offset) (x k .bytes) (c .before .before .before .before .before .before .before .before .agree .result) _ _ _ (c .before .before .before .before .before .write .ensures) (c .if6 .left) in
+    let fails = c .if6 .left in
+    let kept = c .before .before .before .before .before .write .ensures .nothing cc in
     adds-refused (s k) (ofPiece (x k)) (taking (s k) (x k)) _ _ 11
     (takes-11 (s k) (x k) (right (D (f .before .before .before))) (room (f .before .before .before)) (f .before .before .if3 .left) (fits f) (agreed (c .before .before .before .before .before .before .before .before) ∙ c .if6 .left))
     (kept .0) (kept .1)
