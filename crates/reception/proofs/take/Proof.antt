@@ -139,8 +139,7 @@ returns-6 c =
     let w = enough (f .before .before .before) in
     let e = fits f in
     let agree = agreed (c .before .before .before .before .before .before .before .before) ∙ c .if6 .taken in
-    let yields = c .if6 .taken in
-    let done = c .before .before .before .before .before .write .ensures .all cc in
+    let done = c .before .before .before .before .before .write .ensures .all (simp (c .if6 .taken)) in
     adds-accepted (s k) (ofPiece (x k)) (taking (s k) (x k)) _ _ (c .before .before .before .before .before .write .result)
     (takes (s k) (x k) (right (D (f .before .before .before))) (room (f .before .before .before)) (f .before .before .if3 .left) e agree ∙ ap accepted (sym (done .0 .new)))
     (run-map (s k .map) (λ q. true) (x k .offset) (length (x k .bytes)) _ _ (done .0))
@@ -156,8 +155,7 @@ returns-7 : tie.Need-returns-7
 returns-7 c =
     let f = c .before .before .before .before .before .before .before .before .before .before .before in
     let k = T f in
-    let fails = c .if6 .left in
-    let kept = c .before .before .before .before .before .write .ensures .nothing cc in
+    let kept = c .before .before .before .before .before .write .ensures .nothing (simp (c .if6 .left)) in
     adds-refused (s k) (ofPiece (x k)) (taking (s k) (x k)) _ _ 11
     (takes-11 (s k) (x k) (right (D (f .before .before .before))) (room (f .before .before .before)) (f .before .before .if3 .left) (fits f) (agreed (c .before .before .before .before .before .before .before .before) ∙ c .if6 .left))
     (kept .0) (kept .1)
