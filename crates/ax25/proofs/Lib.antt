@@ -1,5 +1,6 @@
 pub mod SpellingLaws
 pub mod HeadLaws
+pub mod Layers
 pub mod WriteLaws
 pub mod InOrder
 pub mod RoundTrip

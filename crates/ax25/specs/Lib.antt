@@ -1,3 +1,4 @@
 pub mod Address
 pub mod Head
+pub mod Information
 pub mod Examples

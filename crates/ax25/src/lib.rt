@@ -19,6 +19,11 @@ pub const MOST_INFORMATION: usize = 255;
 
 pub const CONTROL: u8 = 0x03;
 
+// The protocols: of file pieces and fill requests, and of directory entries.
+pub const FILE: u8 = 0xBB;
+
+pub const DIRECTORY: u8 = 0xBD;
+
 // A station: six characters, padded at the end with spaces, and the number of its SSID.
 pub struct Address {
     pub c0: u8,

@@ -1,4 +1,3 @@
-pub mod Layers
 pub mod PieceLaws
 pub mod EntryLaws
 pub mod Says

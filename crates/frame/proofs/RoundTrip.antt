@@ -22,7 +22,7 @@ use Rattle.ax25.specs.Head.{headBytes, headChecks, headOf, readHead}
 use Rattle.ax25.proofs.HeadLaws.{head-says}
 use Rattle.ax25.proofs.RoundTrip.{head-before-information, read-head-is-written}
 use Rattle.frame.specs.declared.Piece.{Piece}
-use Rattle.frame.specs.Information.{file, informationOf}
+use Rattle.ax25.specs.Information.{file, informationOf}
 use Rattle.frame.specs.Piece.{pieceFlags, pieceChecks, pieceFields, pieceOf, readPiece, pieceData, bytesRead, pieceBytes}
 use Rattle.frame.specs.Made.{pieceBefore, pieceInformation, pieceFrame, Makeable}
 use Rattle.frame.proofs.PieceLaws.{reads-piece}

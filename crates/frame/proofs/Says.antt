@@ -23,7 +23,8 @@ use Rattle.header.proofs.HeaderLaws.{reads-header, told-length}
 use Rattle.header.proofs.Says.{HeaderSays, header-says}
 use Rattle.frame.specs.declared.Piece.{Piece}
 use Rattle.frame.specs.declared.Entry.{Entry}
-use Rattle.frame.specs.Information.{file, directory, checkLength, informationOf}
+use Rattle.ax25.specs.Information.{file, directory, informationOf}
+use Rattle.frame.specs.Information.{checkLength}
 use Rattle.frame.specs.Piece.{beforeData, pieceFlags, pieceChecks, pieceFields, pieceOf, readPiece, pieceData, pieceBytes, bytesRead}
 use Rattle.frame.specs.Entry.{flagsAllowed, headerWhole, headerPart, headerRight, entryChecks, entryFields, entryOf, readEntry, headerBytesRead, headerBytes}
 

@@ -15,7 +15,8 @@ use Rattle.header.specs.Header.{headerLength, headerOf, keepsRules}
 use Rattle.frame.specs.declared.Entry.{Entry}
 use Rattle.frame.specs.declared.EntryRead.{EntryRead}
 use Rattle.frame.specs.declared.EntryRead.the-variants.{Accepted, Refused}
-use Rattle.frame.specs.Information.{directory, checkLength, informationOf}
+use Rattle.ax25.specs.Information.{directory, informationOf}
+use Rattle.frame.specs.Information.{checkLength}
 
 -- how many bytes stand before the file header: flags, number, offset, time old and time new
 abbrev pub beforeHeader : ℕ

@@ -11,7 +11,7 @@ use Rattle.remainder.specs.Check.{withCheck}
 use Rattle.ax25.specs.Address.{isWritable}
 use Rattle.ax25.specs.Head.{headBytes}
 use Rattle.frame.specs.declared.Piece.{Piece}
-use Rattle.frame.specs.Information.{file}
+use Rattle.ax25.specs.Information.{file}
 use Rattle.frame.specs.Piece.{pieceFlags}
 
 -- the nine header bytes: flags, number (4), type (1), offset (3)

@@ -14,7 +14,8 @@ use Rattle.ax25.specs.Head.{headLength, headChecks, headOf}
 use Rattle.frame.specs.declared.Piece.{Piece}
 use Rattle.frame.specs.declared.PieceRead.{PieceRead}
 use Rattle.frame.specs.declared.PieceRead.the-variants.{Accepted, Refused}
-use Rattle.frame.specs.Information.{file, checkLength, informationOf}
+use Rattle.ax25.specs.Information.{file, informationOf}
+use Rattle.frame.specs.Information.{checkLength}
 
 -- how many bytes stand before the data: flags, number, type and offset
 abbrev pub beforeData : ℕ

@@ -6,7 +6,7 @@ use ax25::Head;
 use header::HeaderRead;
 ghost use mathlib.Core.Path.{_≡_};
 ghost use Rattle.reason.specs.Order.{firstOf};
-ghost use Rattle.frame.specs.Information.{informationOf};
+ghost use Rattle.ax25.specs.Information.{informationOf};
 ghost use Rattle.frame.specs.Entry.{flagsAllowed, headerWhole, entryChecks, entryFields, entryAnswer, headerPart};
 
 // How many bytes stand before the file header; the information of an entry with an empty header; where

@@ -9,6 +9,8 @@
 mod entries;
 mod pieces;
 
+use ax25::DIRECTORY;
+use ax25::FILE;
 use ax25::HEAD_LENGTH;
 use ax25::Head;
 use ax25::HeadRead;
@@ -16,11 +18,6 @@ use header::Header;
 ghost use mathlib.Core.Path.{_≡_};
 ghost use Rattle.frame.specs.Piece.{pieceAnswer, readPiece, pieceBytes, bytesRead};
 ghost use Rattle.frame.specs.Entry.{entryAnswer, readEntry, headerBytes, headerBytesRead};
-
-// The protocols: of file pieces and of directory entries.
-pub const FILE: u8 = 0xBB;
-
-pub const DIRECTORY: u8 = 0xBD;
 
 // How many check bytes stand at the end of the information.
 const CHECK_LENGTH: usize = 2;

@@ -13,18 +13,18 @@ pub(crate) fn head(protocol: u8) -> Bytes {
 // information three times over.
 pub(crate) fn piece(n: u8) -> Bytes {
     let fields = [0x02, 7, 0, 0, 0, 0, 0, 0, 0];
-    let open = made::and(head(frame::FILE), &fields);
+    let open = made::and(head(ax25::FILE), &fields);
     made::cut(and_figure(and_figure(and_figure(open))), 25 + (n as usize))
 }
 
 // The entry of the figure.
 pub(crate) fn entry() -> Bytes {
-    made::cut(and_figure(head(frame::DIRECTORY)), 113)
+    made::cut(and_figure(head(ax25::DIRECTORY)), 113)
 }
 
 // The entry of the figure, or the piece of four bytes.
 pub(crate) fn base(protocol: u8) -> Bytes {
-    if protocol == frame::DIRECTORY {
+    if protocol == ax25::DIRECTORY {
         entry()
     } else {
         piece(4)

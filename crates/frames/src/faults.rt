@@ -140,7 +140,7 @@ fn possible(protocol: u8, first: usize, second: usize) -> bool {
 
 // Whether a frame of the protocol can have the fault.
 fn known(protocol: u8, fault: usize) -> bool {
-    if protocol == frame::DIRECTORY {
+    if protocol == ax25::DIRECTORY {
         fault != NO_DATA
     } else {
         (fault < NOT_WHOLE) | (fault == NO_DATA)
@@ -197,7 +197,7 @@ fn changed(frame: Bytes, fault: usize) -> Bytes {
 
 // The frame with no fault but one of its length, without its check.
 fn of_size(protocol: u8, fault: usize) -> Bytes {
-    if protocol == frame::DIRECTORY {
+    if protocol == ax25::DIRECTORY {
         entry(fault)
     } else {
         piece(fault)

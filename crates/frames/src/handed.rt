@@ -9,23 +9,23 @@ use frame::PieceRead;
 
 // Pieces of 1, 2, 243 and 244 bytes, and refused ones.
 pub(crate) fn of_pieces() {
-    say::heading(b"Bytes handed out: ", frame::FILE);
+    say::heading(b"Bytes handed out: ", ax25::FILE);
     accepted(1);
     accepted(2);
     accepted(243);
     accepted(244);
-    refused(frame::FILE, faults::CHECK);
-    refused(frame::FILE, faults::NO_DATA);
-    refused(frame::FILE, faults::SHORT);
+    refused(ax25::FILE, faults::CHECK);
+    refused(ax25::FILE, faults::NO_DATA);
+    refused(ax25::FILE, faults::SHORT);
 }
 
 // The entry of the figure, and refused ones.
 pub(crate) fn of_entries() {
-    say::heading(b"Bytes handed out: ", frame::DIRECTORY);
-    say::word(frame::DIRECTORY);
-    handed(frame::DIRECTORY, made::checked(bases::entry()));
-    refused(frame::DIRECTORY, faults::CHECK);
-    refused(frame::DIRECTORY, faults::HEADER);
+    say::heading(b"Bytes handed out: ", ax25::DIRECTORY);
+    say::word(ax25::DIRECTORY);
+    handed(ax25::DIRECTORY, made::checked(bases::entry()));
+    refused(ax25::DIRECTORY, faults::CHECK);
+    refused(ax25::DIRECTORY, faults::HEADER);
 }
 
 // The fields of a piece of type 5 with number 01020304 and offset 060708.
@@ -38,7 +38,7 @@ pub(crate) fn of_fields() {
 fn accepted(n: u8) {
     say::text(b"piece of ");
     say::number(n as u64);
-    handed(frame::FILE, made::checked(bases::piece(n)));
+    handed(ax25::FILE, made::checked(bases::piece(n)));
 }
 
 // The line of a frame with a fault.
@@ -53,7 +53,7 @@ fn refused(protocol: u8, fault: usize) {
 fn handed(protocol: u8, frame: Bytes) {
     let bytes = frame.bytes;
     let all = made::first(&bytes, frame.size);
-    if protocol == frame::DIRECTORY {
+    if protocol == ax25::DIRECTORY {
         counted(frame::header_bytes(all));
     } else {
         counted(frame::piece_bytes(all));

@@ -22,12 +22,12 @@ fn main() {
     series::of_pieces();
     series::of_entries();
     series::of_places();
-    flags::all(frame::FILE);
-    flags::all(frame::DIRECTORY);
-    faults::all(frame::FILE);
-    faults::all(frame::DIRECTORY);
-    faults::heads(frame::FILE);
-    faults::heads(frame::DIRECTORY);
+    flags::all(ax25::FILE);
+    flags::all(ax25::DIRECTORY);
+    faults::all(ax25::FILE);
+    faults::all(ax25::DIRECTORY);
+    faults::heads(ax25::FILE);
+    faults::heads(ax25::DIRECTORY);
     handed::of_pieces();
     handed::of_entries();
     handed::of_fields();

@@ -8,7 +8,7 @@ use libc::STDOUT_FILENO;
 // The reason for which the frame is refused, 0 where it is accepted: read as a piece, or as an entry
 // where the protocol is that of directories.
 pub(crate) fn answer(protocol: u8, frame: Bytes) -> u8 {
-    if protocol == frame::DIRECTORY {
+    if protocol == ax25::DIRECTORY {
         entry(frame)
     } else {
         piece(frame)
@@ -72,7 +72,7 @@ fn digit(n: u8) -> u8 {
 
 // What a frame of the protocol is.
 pub(crate) fn word(protocol: u8) {
-    if protocol == frame::DIRECTORY {
+    if protocol == ax25::DIRECTORY {
         text(b"entry");
     } else {
         text(b"piece");

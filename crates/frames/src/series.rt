@@ -6,19 +6,19 @@ use crate::say;
 
 // Pieces by the length of their information, around 11 and around 255, and the first bytes of one.
 pub(crate) fn of_pieces() {
-    say::heading(b"Lengths: ", frame::FILE);
-    informations(frame::FILE, 0, 13);
-    informations(frame::FILE, 253, 258);
-    cuts(frame::FILE);
+    say::heading(b"Lengths: ", ax25::FILE);
+    informations(ax25::FILE, 0, 13);
+    informations(ax25::FILE, 253, 258);
+    cuts(ax25::FILE);
 }
 
 // Entries by the length of their information, up to the figure's 99 and around 255, and the first bytes
 // of one. Of information from 19 to 99 bytes the header is cut to its first 0 to 80.
 pub(crate) fn of_entries() {
-    say::heading(b"Lengths: ", frame::DIRECTORY);
-    informations(frame::DIRECTORY, 0, 100);
-    informations(frame::DIRECTORY, 255, 257);
-    cuts(frame::DIRECTORY);
+    say::heading(b"Lengths: ", ax25::DIRECTORY);
+    informations(ax25::DIRECTORY, 0, 100);
+    informations(ax25::DIRECTORY, 255, 257);
+    cuts(ax25::DIRECTORY);
 }
 
 // A line for each length of the information from one on and below another.
@@ -37,7 +37,7 @@ fn information(protocol: u8, n: usize) {
 
 // A frame with n bytes of information.
 fn informed(protocol: u8, n: usize) -> Bytes {
-    if protocol == frame::DIRECTORY {
+    if protocol == ax25::DIRECTORY {
         entry(n)
     } else {
         piece(n)
@@ -48,7 +48,7 @@ fn informed(protocol: u8, n: usize) -> Bytes {
 // is 00 00 for zeros.
 fn piece(n: usize) -> Bytes {
     if n < 11 {
-        return made::and_zeros(bases::head(frame::FILE), n);
+        return made::and_zeros(bases::head(ax25::FILE), n);
     }
     made::checked(bases::piece(((n - 11) % 256) as u8))
 }
@@ -57,7 +57,7 @@ fn piece(n: usize) -> Bytes {
 // zeros where there is no room for the check; beyond, 255 or 256 with an item more in the header.
 fn entry(n: usize) -> Bytes {
     if n < 2 {
-        return made::and_zeros(bases::head(frame::DIRECTORY), n);
+        return made::and_zeros(bases::head(ax25::DIRECTORY), n);
     }
     if n < 100 {
         return made::checked(made::cut(bases::entry(), 14 + n));
@@ -100,7 +100,7 @@ fn place(at: usize, b: u8, size: usize) {
     say::number(at as u64);
     say::text(b" of ");
     say::number(size as u64);
-    say::end(frame::DIRECTORY, placed(at, b, size));
+    say::end(ax25::DIRECTORY, placed(at, b, size));
 }
 
 // Such an entry.

@@ -5,9 +5,9 @@ use lib.ListN.{length}
 use denote.Ref.{now}
 use borrow.Author.Needs.{needs}
 use Rattle.ax25.specs.Head.{headLength}
-use Rattle.frame.specs.Information.{file}
+use Rattle.ax25.specs.Information.{file}
 use Rattle.frame.specs.Piece.{pieceChecks, pieceFields, readPiece}
-use Rattle.frame.proofs.Layers.{long, behind-head, refused-head}
+use Rattle.ax25.proofs.Layers.{long, behind-head, refused-head}
 use Rattle.frame.proofs.read_piece.Statement.{statement}
 use Rattle.frame.proofs.read_piece.Tie as tie
 

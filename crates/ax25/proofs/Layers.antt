@@ -1,4 +1,4 @@
--- A frame's two layers, for pieces and entries alike: the head's reasons, and then those of the information behind it.
+-- A frame's two layers, whatever its information is: the head's reasons, and then those of the information behind it.
 -- Assumes nothing.
 use mathlib.Core.Path.{_≡_, sym, ap, _∙_}
 use mathlib.Core.List.{List, _++_}
@@ -9,12 +9,12 @@ use lib.Seq.{take-all}
 use Rattle.reason.specs.Answer.{Answer, accepted, refused}
 use Rattle.reason.specs.Order.{Check, firstOf}
 use Rattle.reason.proofs.OrderLaws.{refused-then, accepted-then}
 use Rattle.ax25.specs.declared.Head.{Head}
 use Rattle.ax25.specs.declared.HeadRead.{HeadRead}
 use Rattle.ax25.specs.declared.HeadRead.the-variants as head
 use Rattle.ax25.specs.Head.{headLength, headChecks, headOf, headAnswer, readHead}
 use Rattle.ax25.proofs.HeadLaws.{head-says}
-use Rattle.frame.specs.Information.{informationOf}
+use Rattle.ax25.specs.Information.{informationOf}
 
 module _ {A : Type 0} (protocol : ℕ) (frame : List ℕ) (checks : List ℕ → List Check) (fields : Head → List ℕ → A) (r : HeadRead)
     (read : headAnswer r ≡ readHead protocol frame) where
