@@ -5,7 +5,7 @@ use mathlib.Core.List.{List}
 use Prim.Native.Nat.{ℕ}
 use Rattle.reason.specs.declared.Outcome.{Outcome}
 use Rattle.reason.specs.declared.Outcome.the-variants.{Accepted, Refused}
-use Rattle.reason.specs.Answer.{Answer, accepted, refused, telling, leaving, outcome, Wrote}
+use Rattle.reason.specs.Answer.{Answer, accepted, refused, telling, leaving, outcome, Wrote, Writes}
 use Rattle.reason.proofs.OnlyOne.{only-one-written}
 
 module _ (lent : List ℕ) (made : Answer (List ℕ)) (left : List ℕ) where
@@ -28,3 +28,11 @@ when-accepted lent made r left new w e = only-one-written lent made r Accepted l
 pub when-refused : (lent : List ℕ) (made : Answer (List ℕ)) (r : Outcome) (left : List ℕ) (n : ℕ) → Wrote lent made r left
     → made ≡ refused n → (r ≡ Refused n) × (left ≡ lent)
 when-refused lent made r left n w e = only-one-written lent made r (Refused n) left lent w (wrote-refused lent made lent n e refl)
+
+-- the promise of a writer that tells values, where its answer is known
+module _ {A : Type 0} (lent : List ℕ) (answer : Answer A) (made : A → List ℕ) (left : List ℕ) where
+  pub writes-refused : (n : ℕ) → answer ≡ refused n → left ≡ lent → Writes lent answer made (refused n) left
+  writes-refused n e l = record { answers = sym e; bytes = l ∙ sym (ap (leaving made lent) e) }
+
+  pub writes-accepted : (a : A) → answer ≡ accepted a → left ≡ made a → Writes lent answer made (accepted a) left
+  writes-accepted a e l = record { answers = sym e; bytes = l ∙ sym (ap (leaving made lent) e) }

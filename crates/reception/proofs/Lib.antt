@@ -9,6 +9,7 @@ pub mod GivenReasons
 pub mod Holding
 pub mod LentSpace
 pub mod HoleLaws
+pub mod ListedLaws
 pub mod Demand3
 pub mod SpareBits
 pub mod OnlyOne

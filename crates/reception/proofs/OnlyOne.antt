@@ -12,7 +12,8 @@ use Rattle.reception.specs.declared.Added.the-variants as added
 use Rattle.reception.specs.declared.Hole.{Hole}
 use Rattle.reception.specs.declared.Listed.{Listed}
 use Rattle.reception.specs.declared.Listed.the-variants as listed
-use Rattle.reception.specs.Reception.{Reception, Piece}
+use Rattle.positions.specs.Map.{mapSize}
+use Rattle.reception.specs.Reception.{Reception, Piece, wrongLength, shortSpace}
 use Rattle.reception.specs.Adding.{Offer, addedAnswer, Adds}
 use Rattle.reception.specs.Opening.{Opens}
 use Rattle.reception.specs.Taking.{Takes}
@@ -69,3 +70,13 @@ only-one-is-held l map position r q = only-one r q
 
 pub only-one-count-held : (l : ℕ) (map : List ℕ) (r q : ℕ) → r ≡ heldCount l map → q ≡ heldCount l map → r ≡ q
 only-one-count-held l map r q = only-one r q
+
+-- `wrong_length`, `map_size` and `short`
+pub only-one-wrong-length : (l : ℕ) (r q : Bool) → r ≡ wrongLength l → q ≡ wrongLength l → r ≡ q
+only-one-wrong-length l r q = only-one r q
+
+pub only-one-map-size : (l r q : ℕ) → r ≡ mapSize l → q ≡ mapSize l → r ≡ q
+only-one-map-size l r q = only-one r q
+
+pub only-one-short : (l : ℕ) (map buffer : List ℕ) (r q : Bool) → r ≡ shortSpace l map buffer → q ≡ shortSpace l map buffer → r ≡ q
+only-one-short l map buffer r q = only-one r q

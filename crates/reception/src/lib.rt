@@ -13,6 +13,9 @@ mod pieces;
 mod space;
 
 use reason::Outcome;
+pub use space::map_size;
+pub use space::short;
+pub use space::wrong_length;
 ghost use mathlib.Core.Path.{_≡_};
 ghost use Rattle.reception.specs.Opening.{Opens};
 ghost use Rattle.reception.specs.Taking.{Takes};

@@ -8,14 +8,14 @@ ghost use Rattle.reception.specs.Reception.{wrongLength, shortMap, short
 ghost use Rattle.reception.specs.Opening.{cleared};
 
 // Reason 7: whether a length is not 1 to 32,768.
-pub(crate) fn wrong_length(l: u32) -> bool
+pub fn wrong_length(l: u32) -> bool
     ensures { λ r. ⌜ r ≡ wrongLength l ⌝ }
 {
     !((1 <= l) & (l <= LONGEST))
 }
 
 // How many bytes the map of a file of a length has: L/8, rounded up.
-pub(crate) fn map_size(l: u32) -> usize
+pub fn map_size(l: u32) -> usize
     ensures { λ r. ⌜ r ≡ mapSize l ⌝ }
 {
     ((l as usize) + 7) / 8
@@ -29,7 +29,7 @@ pub(crate) fn short_map(l: u32, map: &[u8]) -> bool
 }
 
 // Reason 12: whether a map or a buffer is too short for a file of a length.
-pub(crate) fn short(l: u32, map: &[u8], buffer: &[u8]) -> bool
+pub fn short(l: u32, map: &[u8], buffer: &[u8]) -> bool
     ensures { λ r. ⌜ r ≡ shortSpace l (now (map .entry)) (now (buffer .entry)) ⌝ }
 {
     short_map(l, map) | (buffer.len() < (l as usize))

@@ -1,0 +1,5 @@
+pub mod Request
+pub mod Reading
+pub mod Writing
+pub mod Run
+pub mod Inner
