@@ -1,3 +1,6 @@
 pub mod ReadingLaws
 pub mod WritingLaws
 pub mod GatheringLaws
+pub mod InOrder
+pub mod OnlyOne
+pub mod RoundTrip

@@ -1,5 +1,6 @@
 pub mod Request
 pub mod Reading
 pub mod Writing
+pub mod Made
 pub mod Run
 pub mod Inner
