@@ -1,15 +1,18 @@
 -- Laws of a run written into a list: what stands where, the length stays, and two neighbours are one run.
 -- Assumes nothing.
-use mathlib.Core.Path.{_≡_, sym, ap, ap₂, _∙_}
+use mathlib.Core.Path.{_≡_, refl, sym, ap, ap₂, _∙_}
 use mathlib.Core.Bool.{Bool, true, false, cond}
-use mathlib.Core.List.{List, _++_, append-assoc}
-use Prim.Native.Nat.{ℕ, _+_, _-_, _≤_, _<_}
-use native.Mathlib.Nat.{add-assoc}
+use mathlib.Core.List.{List, [], _∷_, _++_, append-assoc}
+use Prim.Native.Nat.{ℕ, suc, _+_, _-_, _≤_, _<_}
+use native.Mathlib.Nat.{add-assoc, add-suc, suc-add}
+use native.Mathlib.Numerals.{add-one}
 use native.Mathlib.Omega.{arith}
-use lib.ListN.{length, getD, take, drop, length-append, length-drop, take-append-drop, List·getD-append}
-use lib.Seq.{length-take-le, take-at, drop-drop, drop-append-add, getD-append-add, getD-take, getD-drop, ext-getD}
+use lib.ListN.{length, getD, set, take, drop, length-append, length-drop, take-append-drop, List·getD-append}
+use lib.Seq.{length-take-le, set-split, set-append-left, take-set-lt, take-suc-set, append-snoc, take-at, drop-drop, drop-append-add, getD-append-add, getD-take, getD-drop, ext-getD}
 use borrow.Author.Tests.{le-leb, lt-leb}
 use Rattle.octets.specs.Runs.{fits, putIn, Put}
+use Rattle.octets.specs.Values.{valuesFrom}
+use Rattle.octets.proofs.ValueLaws.{values-long, values-join}
 
 -- what a caller learns of `put`, from the room and from its answer
 module _ (out : List ℕ) (at : ℕ) (run : List ℕ) (r : Bool) (left : List ℕ) (p : Put out at run r left) where
@@ -108,3 +111,38 @@ put-same out at run e =
     ∙ ap₂ (λ (x y : List ℕ). take at out ++ (x ++ y)) (sym e) (sym (drop-drop (length run) at out))
     ∙ ap (λ (l : List ℕ). take at out ++ l) (take-append-drop (length run) (drop at out))
     ∙ take-append-drop at out
+
+-- a run of nothing changes nothing
+pub put-nothing : (out : List ℕ) (at : ℕ) → putIn out at [] ≡ out
+put-nothing out at = put-same out at [] refl
+
+-- a byte that is stored is a run of one
+pub put-one : (out : List ℕ) (at v : ℕ) → at < length out → set out at v ≡ putIn out at (v ∷ [])
+unfolding putIn
+put-one out at v h =
+    set-split out at v h
+    ∙ sym (append-snoc (take at out) v (drop (suc at) out))
+    ∙ ap (λ (n : ℕ). take at out ++ (v ∷ []) ++ drop n out) (sym (add-one at))
+
+-- a byte stored right before a run that was written is the longer run
+pub put-front : (out : List ℕ) (at : ℕ) (run : List ℕ) (b : ℕ) → suc at + length run ≤ length out
+    → set (putIn out (suc at) run) at b ≡ putIn out at (b ∷ run)
+unfolding putIn
+put-front out at run b h =
+    let t = take (suc at) out in
+    let long : length t ≡ suc at = length-take-le (suc at) out (omega arith) in
+    set-append-left (t ++ run) (drop (suc at + length run) out) at b (omega (arith, length-append t run))
+    ∙ ap (λ (l : List ℕ). l ++ drop (suc at + length run) out) (set-append-left t run at b (omega arith))
+    ∙ ap (λ (l : List ℕ). l ++ run ++ drop (suc at + length run) out)
+    (sym (take-set-lt (suc at) out at b (omega arith)) ∙ take-suc-set out at b (omega arith))
+    ∙ ap₂ (λ (l : List ℕ) (n : ℕ). l ++ drop n out) (append-snoc (take at out) b run) (suc-add at (length run) ∙ sym (add-suc at (length run)))
+
+-- the values of a rule, written behind those before them, are one run
+pub put-values : (f : ℕ → ℕ) (out : List ℕ) (at i n k : ℕ) → at + n + k ≤ length out
+    → putIn (putIn out at (valuesFrom f i n)) (at + n) (valuesFrom f (i + n) k) ≡ putIn out at (valuesFrom f i (n + k))
+put-values f out at i n k h =
+    let a = values-long f i n in
+    let b = values-long f (i + n) k in
+    ap (λ (m : ℕ). putIn (putIn out at (valuesFrom f i n)) (at + m) (valuesFrom f (i + n) k)) (sym a)
+    ∙ put-put out at (valuesFrom f i n) (valuesFrom f (i + n) k) (omega (arith, a, b))
+    ∙ ap (putIn out at) (values-join f i n k)

@@ -1,8 +1,8 @@
 -- What stands at each place of the list that a rule makes: a rule that is tested over a whole list holds at each entry.
 -- Assumes nothing.
 use mathlib.Core.Path.{_≡_, refl, sym, ap, ap₂, _∙_}
-use mathlib.Core.List.{List, _∷_}
-use Prim.Native.Nat.{ℕ, zero, suc, _+_, _<_}
+use mathlib.Core.List.{List, _∷_, _++_}
+use Prim.Native.Nat.{ℕ, zero, suc, _+_, _≤_, _<_}
 use native.Mathlib.Nat.{add-zero, zero-add, add-suc, suc-add, le-of-suc-le-suc, not-suc-le-zero}
 use native.Mathlib.Omega.{arith}
 use lib.ListN.{length, getD}
@@ -25,7 +25,19 @@ pub values-long : {A : Type 0} (f : ℕ → A) (i n : ℕ) → length (valuesFro
 values-long f i zero = refl
 values-long f i (suc n) = ap suc (values-long f (suc i) n)
 
--- two rules that agree at each place make the same list
+-- the values at n places and at k places behind them are one list
+pub values-join : {A : Type 0} (f : ℕ → A) (i n k : ℕ) → valuesFrom f i n ++ valuesFrom f (i + n) k ≡ valuesFrom f i (n + k)
+values-join f i zero k = rw (add-zero i, zero-add k)
+values-join f i (suc n) k =
+    ap (λ (j : ℕ). f i ∷ (valuesFrom f (suc i) n ++ valuesFrom f j k)) (add-suc i n ∙ sym (suc-add i n))
+    ∙ ap (λ (l : List _). f i ∷ l) (values-join f (suc i) n k)
+    ∙ ap (valuesFrom f i) (sym (suc-add n k))
+
+-- two rules that agree from i on make the same list
+pub values-alike : {A : Type 0} (f g : ℕ → A) (i n : ℕ) → ((k : ℕ) → i ≤ k → k < i + n → f k ≡ g k) → valuesFrom f i n ≡ valuesFrom g i n
+values-alike f g i zero e = refl
+values-alike f g i (suc n) e = ap₂ _∷_ (e i (omega arith) (omega arith)) (values-alike f g (suc i) n (λ k l h. e k (omega arith) (omega arith)))
+
+-- .. and so do two that agree at each place up to the last
 pub values-same : {A : Type 0} (f g : ℕ → A) (i n : ℕ) → ((k : ℕ) → k < i + n → f k ≡ g k) → valuesFrom f i n ≡ valuesFrom g i n
-values-same f g i zero e = refl
-values-same f g i (suc n) e = ap₂ _∷_ (e i (omega arith)) (values-same f g (suc i) n (λ k h. e k (omega arith)))
+values-same f g i n e = values-alike f g i n (λ k l h. e k h)

@@ -23,7 +23,7 @@ use Rattle.reception.proofs.MarkLaws.{run-nothing, run-then, run-told, 
 use Rattle.reception.proofs.CopyLaws.{copy-nothing, copy-then, copy-told}
 
 -- a position of an aligned byte, by its bit
-bit-of : (m : List ℕ) (from q : ℕ) → from % 8 ≡ 0 → from ≤ q → q < from + 8 → isSet (byteAt m (from / 8)) (q - from) ≡ held m q
+pub bit-of : (m : List ℕ) (from q : ℕ) → from % 8 ≡ 0 → from ≤ q → q < from + 8 → isSet (byteAt m (from / 8)) (q - from) ≡ held m q
 bit-of m from q a l g = let e : from / 8 * 8 + (q - from) ≡ q = omega arith in sym (held-in m (from / 8) (q - from) (omega arith)) ∙ ap (held m) e
 
 -- ---- agreeing

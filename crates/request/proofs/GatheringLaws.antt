@@ -9,7 +9,7 @@ use native.Mathlib.Omega.{arith}
 use lib.ListN.{length, take}
 use Rattle.reason.specs.Answer.{accepted, refused}
 use Rattle.octets.specs.Runs.{putIn, Put}
-use Rattle.octets.proofs.RunLaws.{put-fits, put-put, put-length, put-same}
+use Rattle.octets.proofs.RunLaws.{put-fits, put-put, put-length, put-nothing}
 use Rattle.ax25.specs.Address.{isWritable}
 use Rattle.ax25.specs.Head.{headLength, headBytes}
 use Rattle.ax25.specs.Information.{file}
@@ -77,7 +77,7 @@ module _ (l : ℕ) (map : List ℕ) (place : ℕ) (entries : List ℕ) (room : m
       ended = sym (ap (lastEnd end) none) ∙ s .ended;
       none = why;
       bytes =
-          sym (put-same so-far (count * holeLength) [] refl)
+          sym (put-nothing so-far (count * holeLength))
           ∙ sym (ap (λ (holes : List Hole). putIn so-far (count * holeLength) (holesBytes holes)) none)
           ∙ s .bytes;
     }

@@ -4,3 +4,6 @@ pub mod GatheringLaws
 pub mod InOrder
 pub mod OnlyOne
 pub mod RoundTrip
+pub mod SentLaws
+pub mod WholeRun
+pub mod Naming

@@ -1,0 +1,9 @@
+pub mod ReadSteps
+pub mod PutLaws
+pub mod RecordLaws
+pub mod GivenAnswers
+pub mod SavedLaws
+pub mod LoadedLaws
+pub mod RoundTrip
+pub mod OnlyOne
+pub mod InOrder

@@ -1,0 +1,160 @@
+-- Steps of reading a record: its parts, its spare bits, and its unheld bytes, a map byte at a time.
+-- Assumes nothing.
+use mathlib.Core.Path.{_≡_, refl, sym, ap, _∙_}
+use mathlib.Core.Bool.{Bool, true, false, cond, not, _&&_, _||_, true≢false}
+use mathlib.Core.Logic.{⊎-elim}
+use mathlib.Core.List.{List, [], _∷_}
+use Prim.Native.Nat.{ℕ, _+_, _-_, _*_, _/_, _%_, _^_, _≤_, _<_}
+use native.Mathlib.Omega.{arith}
+use lib.Bits.{bitAnd}
+use lib.Dec.{eqb, leb}
+use lib.ListN.{length, take, drop}
+use borrow.Author.Tests.{eq-eqb, ne-eqb, eqb-false, le-leb, lt-leb, not-true}
+use Rattle.reason.proofs.Bools.{le-or-lt}
+use Rattle.octets.specs.Numbers.{byteAt}
+use Rattle.positions.specs.Spans.{every}
+use Rattle.positions.specs.Map.{bit, isSet, held, mapSize}
+use Rattle.positions.proofs.BitLaws.{bit-lt, bits-ext, and-one, set-shr, set-none, set-high}
+use Rattle.positions.proofs.SpanLaws.{all-if, all-at, every-same, part-fails, no-between}
+use Rattle.positions.proofs.MapLaws.{held-in, held-by, full-byte}
+use Rattle.reception.proofs.JoinSteps.{bit-of}
+use Rattle.record.specs.declared.Recorded.{Recorded}
+use Rattle.record.specs.Record.{mapAt, bytesAt, recordLength}
+use Rattle.record.specs.Reading.{numberIn, lengthIn, part, mapIn, bytesIn, spareClear, unheldClear, recordedIn}
+use Rattle.record.specs.Inner.{clearAt}
+
+-- what a record says, from its two numbers
+pub said : (s : List ℕ) (n l : ℕ) → n ≡ numberIn s → l ≡ lengthIn s → _≡_ {A = Recorded} (record { number = n; length = l }) (recordedIn s)
+said s n l d e = rw (d, e)
+
+-- four tests, each by what it is
+pub four : (a a′ b b′ c c′ d d′ : Bool) → a ≡ a′ → b ≡ b′ → c ≡ c′ → d ≡ d′ → (a && b && c && d) ≡ (a′ && b′ && c′ && d′)
+four a a′ b b′ c c′ d d′ e f g h = rw (e, f, g, h)
+
+-- ---- the parts of a record
+-- the part between two places
+pub part-by : (s : List ℕ) (at n end : ℕ) → end ≡ at + n → take (end - at) (drop at s) ≡ part s at n
+part-by s at n end e = let k : end - at ≡ n = omega arith in ap (λ (m : ℕ). take m (drop at s)) k
+
+-- the map of a file of a length, where it fits and where it does not
+pub map-fits : (s : List ℕ) (l size : ℕ) → size ≡ mapSize l → mapAt + size ≤ length s
+    → take (mapAt + size - mapAt) (drop mapAt s) ≡ cond (leb (mapAt + mapSize l) (length s)) (part s mapAt (mapSize l)) []
+map-fits s l size e h =
+    part-by s mapAt (mapSize l) (mapAt + size) (ap (λ (n : ℕ). mapAt + n) e)
+    ∙ ap (λ (b : Bool). cond b (part s mapAt (mapSize l)) []) (sym (le-leb (mapAt + mapSize l) (length s) (omega arith)))
+
+pub map-short : (s : List ℕ) (l size : ℕ) → size ≡ mapSize l → length s < mapAt + size
+    → [] ≡ cond (leb (mapAt + mapSize l) (length s)) (part s mapAt (mapSize l)) []
+map-short s l size e h = ap (λ (b : Bool). cond b (part s mapAt (mapSize l)) []) (sym (lt-leb (mapAt + mapSize l) (length s) (omega arith)))
+
+-- the map and the bytes, by the length that the record says
+pub map-by-length : (s : List ℕ) (l size : ℕ) → l ≡ lengthIn s → size ≡ mapSize l → take (mapAt + size - mapAt) (drop mapAt s) ≡ mapIn s
+map-by-length s l size is e = part-by s mapAt (mapSize (lengthIn s)) (mapAt + size) (ap (λ (n : ℕ). mapAt + n) (e ∙ ap mapSize is))
+
+pub bytes-by-length : (s : List ℕ) (l from end : ℕ) → l ≡ lengthIn s → from ≡ bytesAt l → end ≡ recordLength l → take (end - from) (drop from s) ≡ bytesIn s
+bytes-by-length s l from end is f e =
+    ap (λ (i : ℕ). take (end - i) (drop i s)) (f ∙ ap bytesAt is)
+    ∙ part-by s (bytesAt (lengthIn s)) (lengthIn s) end (e ∙ ap recordLength is)
+
+-- ---- the spare bits
+-- a test that a number is zero
+zero-test : (x : ℕ) (b : Bool) → (x ≡ 0 → b ≡ true) → (b ≡ true → x ≡ 0) → eqb x 0 ≡ b
+zero-test x true f g = eq-eqb x 0 (g refl)
+zero-test x false f g = ne-eqb x 0 (λ e. true≢false (sym (f e)))
+
+no-bit : (x : ℕ) → x < 2 → eqb x 1 ≡ false → x ≡ 0
+no-bit x h e = let d = eqb-false x 1 e in omega (arith, d)
+
+-- there are none
+pub no-spare : (l : ℕ) (m : List ℕ) → l % 8 ≡ 0 → spareClear l m ≡ true
+no-spare l m e = all-if (λ p. not (held m p)) l (mapSize l * 8 - l) (λ q a b. absurd (no-between l q a (omega arith)))
+
+module _ (l : ℕ) (m : List ℕ) (some : l % 8 ≡ 0 → ⊥) where
+  abbrev last : ℕ
+  last = byteAt m (l / 8)
+
+  -- a position of the last byte
+  here : (q : ℕ) → l ≤ q → q < l + (mapSize l * 8 - l) → q / 8 ≡ l / 8
+  here q a b = omega (arith, some)
+
+  spare-bit : (q : ℕ) → l ≤ q → q < l + (mapSize l * 8 - l) → held m q ≡ isSet (last / 2 ^ (l % 8)) (q % 8 - l % 8)
+  spare-bit q a b =
+      let e : q / 8 ≡ l / 8 = here q a b in
+      let f : l % 8 + (q % 8 - l % 8) ≡ q % 8 = omega arith in
+      held-by m q
+      ∙ ap (λ (i : ℕ). isSet (byteAt m i) (q % 8)) e
+      ∙ ap (isSet last) (sym f)
+      ∙ sym (set-shr last (l % 8) (q % 8 - l % 8))
+
+  clear-if : last / 2 ^ (l % 8) ≡ 0 → spareClear l m ≡ true
+  clear-if e =
+      all-if (λ p. not (held m p)) l (mapSize l * 8 - l)
+      (λ q a b. ap not (spare-bit q a b ∙ ap (λ (x : ℕ). isSet x (q % 8 - l % 8)) e ∙ set-none (q % 8 - l % 8)))
+
+  clear-bit : last < 256 → spareClear l m ≡ true → (k : ℕ) → isSet (last / 2 ^ (l % 8)) k ≡ false
+  clear-bit h e k =
+      ⊎-elim
+      (λ g. set-shr last (l % 8) k ∙ set-high 8 last (l % 8 + k) h g)
+      (λ g.
+      let f : (l + k) % 8 - l % 8 ≡ k = omega arith in
+      let b : l + k < l + (mapSize l * 8 - l) = omega (arith, some) in
+      ap (isSet (last / 2 ^ (l % 8))) (sym f)
+      ∙ sym (spare-bit (l + k) (omega arith) b)
+      ∙ not-true (held m (l + k)) (all-at (λ p. not (held m p)) l (mapSize l * 8 - l) e (l + k) (omega arith) b))
+      (le-or-lt 8 (l % 8 + k))
+
+  clear-only : last < 256 → last / 2 ^ (l % 8) < 256 → spareClear l m ≡ true → last / 2 ^ (l % 8) ≡ 0
+  clear-only h g e =
+      bits-ext 8 (last / 2 ^ (l % 8)) 0 g (omega arith)
+      (λ k _. no-bit (bit (last / 2 ^ (l % 8)) k) (bit-lt (last / 2 ^ (l % 8)) k) (clear-bit h e k) ∙ sym (no-bit (bit 0 k) (bit-lt 0 k) (set-none k)))
+
+  -- they are those of the last byte from bit l mod 8 on
+  pub spare-by-shift : last < 256 → last / 2 ^ (l % 8) < 256 → eqb (last / 2 ^ (l % 8)) 0 ≡ spareClear l m
+  spare-by-shift h g = zero-test (last / 2 ^ (l % 8)) (spareClear l m) clear-if (clear-only h g)
+
+-- ---- the unheld bytes
+-- one bit, shifted down and masked
+pub bit-told : (b k : ℕ) → bitAnd (b / 2 ^ k) 1 ≡ 1 → isSet b k ≡ true
+unfolding bit
+bit-told b k e = eq-eqb (b / 2 ^ k % 2) 1 (sym (and-one (b / 2 ^ k)) ∙ e)
+
+pub bit-not-told : (b k : ℕ) → (bitAnd (b / 2 ^ k) 1 ≡ 1 → ⊥) → isSet b k ≡ false
+unfolding bit
+bit-not-told b k d = ne-eqb (b / 2 ^ k % 2) 1 (λ e. d (and-one (b / 2 ^ k) ∙ e))
+
+-- a held position is clear; of another the byte decides
+pub held-clear : (b : ℕ) (d : List ℕ) (from p : ℕ) → isSet b (p - from) ≡ true → clearAt b d from p ≡ true
+held-clear b d from p e = rw e
+
+pub byte-decides : (b : ℕ) (d : List ℕ) (from p : ℕ) → isSet b (p - from) ≡ false → eqb (byteAt d p) 0 ≡ clearAt b d from p
+byte-decides b d from p e = rw e
+
+-- every position of a full byte is held
+pub full-clear : (b : ℕ) (d : List ℕ) (from p : ℕ) → b ≡ 255 → p < from + 8 → clearAt b d from p ≡ true
+full-clear b d from p e h =
+    let k : (0 * 8 + (p - from)) / 8 ≡ 0 = omega arith in
+    held-clear b d from p
+    (ap (λ (x : ℕ). isSet x (p - from)) e
+    ∙ sym (held-in (255 ∷ []) 0 (p - from) (omega arith))
+    ∙ full-byte (255 ∷ []) (0 * 8 + (p - from)) (ap (byteAt (255 ∷ [])) k))
+
+-- a byte of a map, for the positions of it below an end
+module _ (m d : List ℕ) (from end : ℕ) (a : from % 8 ≡ 0) (low : from ≤ end) (high : end ≤ from + 8) where
+  clear-byte-is : every (clearAt (byteAt m (from / 8)) d from) from (end - from) ≡ every (λ p. held m p || eqb (byteAt d p) 0) from (end - from)
+  clear-byte-is =
+      every-same (clearAt (byteAt m (from / 8)) d from) (λ p. held m p || eqb (byteAt d p) 0) from (end - from)
+      (λ q l g. ap (λ (w : Bool). w || eqb (byteAt d q) 0) (bit-of m from q a l (omega arith)))
+
+  -- where it fails, all fail
+  pub clear-fails : (n : ℕ) → end ≤ n → every (clearAt (byteAt m (from / 8)) d from) from (end - from) ≡ false → unheldClear n m d ≡ false
+  clear-fails n h e =
+      part-fails (λ p. held m p || eqb (byteAt d p) 0) 0 n from (end - from) (omega arith) (omega arith) (sym clear-byte-is ∙ e)
+
+  -- where it passes, the positions so far pass
+  pub clear-passes : every (clearAt (byteAt m (from / 8)) d from) from (end - from) ≡ true
+      → ((q : ℕ) → 0 ≤ q → q < from → (held m q || eqb (byteAt d q) 0) ≡ true) → (q : ℕ) → 0 ≤ q → q < end → (held m q || eqb (byteAt d q) 0) ≡ true
+  clear-passes e before q l g =
+      ⊎-elim
+      (λ h. all-at (λ p. held m p || eqb (byteAt d p) 0) from (end - from) (sym clear-byte-is ∙ e) q h (omega arith))
+      (λ h. before q l h)
+      (le-or-lt from q)

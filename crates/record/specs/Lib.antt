@@ -1,0 +1,6 @@
+pub mod Record
+pub mod Saving
+pub mod Reading
+pub mod Loading
+pub mod Inner
+pub mod GivenBack

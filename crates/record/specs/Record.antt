@@ -1,0 +1,42 @@
+-- A record of a reception (01, "Record"): fields in this order, each a one-byte tag, a two-byte length, and data: 01 number (4),
+-- 02 length (4), 03 map, 04 buffer. Spare bits and unheld bytes are zero.
+-- Assumes nothing.
+use mathlib.Core.Bool.{cond}
+use mathlib.Core.List.{List, _∷_, _++_}
+use Prim.Native.Nat.{ℕ, _+_}
+use lib.ListN.{length}
+use Rattle.octets.specs.Numbers.{byteAt, bytesOf}
+use Rattle.octets.specs.Values.{valuesFrom}
+use Rattle.positions.specs.Map.{held, mapSize, mapOf}
+use Rattle.reception.specs.Reception.{Reception}
+use Rattle.reception.specs.Held.{heldOf}
+
+-- a field: tag, length and data
+abbrev pub field : ℕ → List ℕ → List ℕ
+field tag bytes = tag ∷ (bytesOf 2 (length bytes) ++ bytes)
+
+-- the map of a record: held are the positions of the file that the reception holds; spare bits are zero
+abbrev pub savedMap : ℕ → List ℕ → List ℕ
+savedMap l map = mapOf (heldOf l map) (mapSize l)
+
+-- the bytes of a record: a held byte is the reception's; an unheld one is zero
+abbrev pub savedBytes : ℕ → List ℕ → List ℕ → List ℕ
+savedBytes l map buffer = valuesFrom (λ p. cond (held map p) (byteAt buffer p) 0) 0 l
+
+-- the record of a reception
+unfoldable pub recordOf : Reception → List ℕ
+recordOf s =
+    field 1 (bytesOf 4 (s .number))
+    ++ field 2 (bytesOf 4 (s .length))
+    ++ field 3 (savedMap (s .length) (s .map))
+    ++ field 4 (savedBytes (s .length) (s .map) (s .buffer))
+
+-- where the map stands in a record, where the bytes of a file of l bytes stand, and where they end
+abbrev pub mapAt : ℕ
+mapAt = 17
+
+abbrev pub bytesAt : ℕ → ℕ
+bytesAt l = mapAt + mapSize l + 3
+
+abbrev pub recordLength : ℕ → ℕ
+recordLength l = bytesAt l + l

@@ -1,0 +1,132 @@
+// A record, written.
+use super::BYTES_TAG;
+use super::LENGTH_TAG;
+use super::MAP_AT;
+use super::MAP_TAG;
+use super::NUMBER_TAG;
+use crate::reading;
+ghost use mathlib.Core.Path.{_≡_};
+ghost use mathlib.Core.Bool.{false, cond};
+ghost use mathlib.Core.List.{_∷_, _++_};
+ghost use Prim.Native.Nat.{_+_, _-_, _*_, _/_, _%_, _≤_, _<_, _^_};
+ghost use lib.ListN.{length};
+ghost use Rattle.octets.specs.Numbers.{byteAt, bytesOf};
+ghost use Rattle.octets.specs.Values.{valuesFrom};
+ghost use Rattle.octets.specs.Runs.{putIn};
+ghost use Rattle.positions.specs.Map.{isSet, mapSize, bitsFrom, mapOf};
+ghost use Rattle.reception.specs.Reception.{longest, wrongLength};
+ghost use Rattle.reception.specs.Held.{heldOf};
+ghost use Rattle.record.specs.Record.{field, savedMap, savedBytes, recordOf, recordLength};
+ghost use Rattle.record.specs.Inner.{byteSaved};
+
+// The bytes before the map: the fields of the number and of the length, and the tag and length of the map's.
+fn before_map(number: u32, length: u32) -> [u8; 17]
+    requires { ⌜ length ≤ longest ⌝ }
+    ensures { λ r. ⌜ r ≡ field 1 (bytesOf 4 number) ++ field 2 (bytesOf 4 length) ++ 3 ∷ bytesOf 2 (mapSize length) ⌝ }
+{
+    let n = octets::bytes4(number);
+    let l = octets::bytes4(length);
+    let size = octets::bytes2(reception::map_size(length) as u16);
+    [
+        NUMBER_TAG,
+        4,
+        0,
+        n[0],
+        n[1],
+        n[2],
+        n[3],
+        LENGTH_TAG,
+        4,
+        0,
+        l[0],
+        l[1],
+        l[2],
+        l[3],
+        MAP_TAG,
+        size[0],
+        size[1],
+    ]
+}
+
+// The tag and length of the field of the bytes.
+fn before_bytes(length: u32) -> [u8; 3]
+    requires { ⌜ length ≤ longest ⌝ }
+    ensures { λ r. ⌜ r ≡ 4 ∷ bytesOf 2 length ⌝ }
+{
+    let l = octets::bytes2(length as u16);
+    [BYTES_TAG, l[0], l[1]]
+}
+
+// The lowest n bits of a byte, all of it where n is 8 or more.
+fn lowest(b: u8, n: usize) -> u8
+    ensures { λ r. ⌜ r ≡ b % 2 ^ n ⌝ }
+{
+    if 8 <= n {
+        return b;
+    }
+    b & ((1 << n) - 1)
+}
+
+// Writes the map of a file of l bytes into the target from a place on, without its spare bits.
+fn put_map(map: &[u8], l: usize, target: &mut [u8], at: usize)
+    requires { ⌜ (l ≤ longest) × (mapSize l ≤ length (now map)) × (at + mapSize l ≤ length (now target)) ⌝ }
+    ensures { λ _. ⌜ now (target .exit) ≡ putIn (now (target .entry)) at (savedMap l (now (map .entry))) ⌝ }
+{
+    let mut i = 0;
+    while i * 8 < l {
+        target[at + i] = lowest(map[i], l - i * 8);
+        i += 1;
+    }
+}
+
+// The byte of position p where it is held, by its bit in the byte of the eight positions from `from` on,
+// and else 0.
+fn saved_at(b: u8, buffer: &[u8], from: usize, p: usize) -> u8
+    requires { ⌜ (from ≤ p) × (p < from + 8) × (p < length (now buffer)) ⌝ }
+    ensures { λ r. ⌜ r ≡ byteSaved b (now (buffer .entry)) from p ⌝ }
+{
+    if (b >> (p - from)) & 1 == 1 {
+        return buffer[p];
+    }
+    0
+}
+
+// Writes the bytes of the positions from `from` on and below `end`, by their bits in a byte, into the target:
+// position p at the place `at` + p.
+fn put_byte(b: u8, buffer: &[u8], from: usize, end: usize, target: &mut [u8], at: usize)
+    requires { ⌜ (from ≤ end) × (end ≤ from + 8) × (end ≤ length (now buffer)) × (at + end ≤ length (now target)) ⌝ }
+    ensures { λ _. ⌜ now (target .exit) ≡ putIn (now (target .entry)) (at + from) (valuesFrom (byteSaved b (now (buffer .entry)) from) from (end - from)) ⌝ }
+{
+    let mut p = from;
+    while p < end {
+        target[at + p] = saved_at(b, buffer, from, p);
+        p += 1;
+    }
+}
+
+// Writes the bytes of a file of l bytes into the target from a place on, unheld ones as zero. A map byte is
+// looked at once.
+fn put_bytes(map: &[u8], buffer: &[u8], l: usize, target: &mut [u8], at: usize)
+    requires { ⌜ (l ≤ longest) × (mapSize l ≤ length (now map)) × (l ≤ length (now buffer)) × (at + l ≤ length (now target)) ⌝ }
+    ensures { λ _. ⌜ now (target .exit) ≡ putIn (now (target .entry)) at (savedBytes l (now (map .entry)) (now (buffer .entry))) ⌝ }
+{
+    let mut p = 0;
+    while p < l {
+        let end = reading::byte_end(p, l);
+        put_byte(map[p / 8], buffer, p, end, target, at);
+        p = end;
+    }
+}
+
+// Writes the record of a reception into the first bytes of the target.
+pub(crate) fn write(number: u32, l: u32, map: &[u8], buffer: &[u8], target: &mut [u8])
+    requires { ⌜ (wrongLength l ≡ false) × (mapSize l ≤ length (now map)) × (l ≤ length (now buffer)) × (recordLength l ≤ length (now target)) ⌝ }
+    ensures { λ _. ⌜ now (target .exit) ≡ putIn (now (target .entry)) 0 (recordOf (record { number = number; length = l; map = now (map .entry); buffer = now (buffer .entry) })) ⌝ }
+{
+    let n = l as usize;
+    let size = reception::map_size(l);
+    octets::put(target, 0, &before_map(number, l));
+    put_map(map, n, target, MAP_AT);
+    octets::put(target, MAP_AT + size, &before_bytes(l));
+    put_bytes(map, buffer, n, target, MAP_AT + size + 3);
+}

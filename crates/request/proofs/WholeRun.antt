@@ -1,0 +1,143 @@
+-- Requests repeated from 0, each time from the end returned, until reason 15: together they list every hole exactly once, ascending, at
+-- most 49 in each (01, "Fill request").
+-- Assumes nothing.
+use mathlib.Core.Path.{_≡_, refl, sym, ap, ap₂, _∙_}
+use mathlib.Core.Bool.{Bool, true, false, _&&_}
+use mathlib.Core.List.{List, [], _∷_, _++_}
+use Prim.Native.Nat.{ℕ, zero, suc, _+_, _*_, _^_, _≤_, _<_}
+use native.Mathlib.Nat.{zero-add}
+use native.Mathlib.Omega.{arith}
+use lib.ListN.{length}
+use Rattle.reason.specs.Answer.{Answer, accepted, refused}
+use Rattle.reason.proofs.OrderLaws.{not-both}
+use Rattle.positions.specs.Map.{mapSize}
+use Rattle.ax25.specs.Address.{isWritable}
+use Rattle.reception.specs.declared.Hole.{Hole}
+use Rattle.reception.specs.Reception.{wrongLength}
+use Rattle.reception.specs.Listing.{listing}
+use Rattle.reception.specs.EveryHole.{endOf, goOn, listedFrom, lastEnd, Ascending, AllHoles}
+use Rattle.reception.proofs.HoleLaws.{all-are-holes, ascending, every-hole, ends-with-15}
+use Rattle.reception.proofs.ListedLaws.{listed-none, listed-more, listed-most}
+use Rattle.request.specs.declared.Written.{Written}
+use Rattle.request.specs.Request.{mostHoles, holeLength, frameLength}
+use Rattle.request.specs.Reading.{holesOf}
+use Rattle.request.specs.Writing.{Wanted, holesFrom, filling}
+use Rattle.request.specs.Run.{sent, sendOn, sentFrom, placeOn, placeAfter, together, EachFrame, Lists, Whole}
+use Rattle.request.proofs.WritingLaws.{fills-refused, fills}
+use Rattle.request.proofs.SentLaws.{ascend-earlier, lists-some, written-fill-is-read, written-holes-are-read}
+
+-- questions in two runs: the second goes on where the first ended
+listed-split : (a b l : ℕ) (map : List ℕ) (place : ℕ)
+    → listedFrom (a + b) l map place ≡ listedFrom a l map place ++ listedFrom b l map (lastEnd place (listedFrom a l map place))
+listed-split zero b l map place = ap (λ (n : ℕ). listedFrom n l map place) (zero-add b)
+listed-split (suc a) b l map place =
+    let n : suc a + b ≡ suc (a + b) = omega arith in
+    ap (λ (k : ℕ). listedFrom k l map place) n ∙ by (listing l map place) refl (λ hole. listed-split a b l map (endOf hole))
+  where
+    by : (x : Answer Hole) → listing l map place ≡ x
+        → ((hole : Hole) → listedFrom (a + b) l map (endOf hole) ≡ listedFrom a l map (endOf hole) ++ listedFrom b l map (lastEnd (endOf hole) (listedFrom a l map (endOf hole))))
+        → goOn x (λ hole. listedFrom (a + b) l map (endOf hole))
+        ≡ goOn x (λ hole. listedFrom a l map (endOf hole)) ++ listedFrom b l map (lastEnd place (goOn x (λ hole. listedFrom a l map (endOf hole))))
+    by (accepted hole) e more = ap (λ (holes : List Hole). hole ∷ holes) (more hole)
+    by (refused k) e more = sym (listed-none l map place b k e)
+
+last-split : (a b l : ℕ) (map : List ℕ) (place : ℕ)
+    → lastEnd place (listedFrom (a + b) l map place) ≡ lastEnd (lastEnd place (listedFrom a l map place)) (listedFrom b l map (lastEnd place (listedFrom a l map place)))
+last-split a b l map place =
+    ap (lastEnd place) (listed-split a b l map place) ∙ behind place (listedFrom a l map place) (listedFrom b l map (lastEnd place (listedFrom a l map place)))
+  where
+    behind : (p : ℕ) (holes more : List Hole) → lastEnd p (holes ++ more) ≡ lastEnd (lastEnd p holes) more
+    behind p [] more = refl
+    behind p (hole ∷ holes) more = behind (endOf hole) holes more
+
+-- A station that can send: its addresses can be written, the file's number has 32 bits, and a target with room for 49 holes.
+module _ (w : Wanted) (target : List ℕ) (good : (isWritable (w .head .destination) && isWritable (w .head .source)) ≡ true) (number : w .number < 256 ^ 4)
+    (room : frameLength mostHoles ≤ length target) where
+  abbrev Told : ℕ → Written
+  Told place = record { count = length (holesFrom w place); end = lastEnd place (holesFrom w place) }
+
+  -- what a request answers, by what listing does
+  fills-by : (place : ℕ) (hole : Hole) → listing (w .length) (w .map) place ≡ accepted hole → filling w place target ≡ accepted (Told place)
+  fills-by place hole e = fills w place target good hole e (omega (arith, listed-most mostHoles (w .length) (w .map) place))
+
+  -- a property of the frames of n requests from a place, and of the place after them
+  module _ (P : ℕ → ℕ → List (List ℕ) → ℕ → Type 0)
+      (none : (place : ℕ) → P 0 place [] place)
+      (refuses : (n place k : ℕ) → listing (w .length) (w .map) place ≡ refused k → P (suc n) place [] place)
+      (goes : (n place : ℕ) (frames : List (List ℕ)) (after : ℕ) → filling w place target ≡ accepted (Told place)
+      → P n (lastEnd place (holesFrom w place)) frames after → P (suc n) place (sent w place target (Told place) ∷ frames) after) where
+    by-run : (n place : ℕ) → P n place (sentFrom n w target place) (placeAfter n w target place)
+    by-run zero place = none place
+    by-run (suc n) place = by (listing (w .length) (w .map) place) refl (λ p. by-run n p)
+      where
+        by : (x : Answer Hole) → listing (w .length) (w .map) place ≡ x → ((p : ℕ) → P n p (sentFrom n w target p) (placeAfter n w target p))
+            → P (suc n) place (sentFrom (suc n) w target place) (placeAfter (suc n) w target place)
+        by (accepted hole) e more =
+            rw (fills-by place hole e) (goes n place _ _ (fills-by place hole e) (more (lastEnd place (holesFrom w place))))
+        by (refused k) e more = rw (fills-refused w place target good k e) (refuses n place k e)
+
+  -- together they list what as many questions list, and the place after them is the end of the last hole
+  lists-all : (n place : ℕ) → (together (sentFrom n w target place) ≡ listedFrom (n * mostHoles) (w .length) (w .map) place)
+      × (placeAfter n w target place ≡ lastEnd place (listedFrom (n * mostHoles) (w .length) (w .map) place))
+  lists-all = by-run
+      (λ n place frames after. (together frames ≡ listedFrom (n * mostHoles) (w .length) (w .map) place) × (after ≡ lastEnd place (listedFrom (n * mostHoles) (w .length) (w .map) place)))
+      (λ place. (refl, refl))
+      (λ n place k e.
+      let z = listed-none (w .length) (w .map) place (suc n * mostHoles) k e in (sym z, sym (ap (lastEnd place) z)))
+      (λ n place frames after e more.
+      let m : suc n * mostHoles ≡ mostHoles + n * mostHoles = omega arith in (
+        ap₂ (λ (x y : List Hole). x ++ y) (written-holes-are-read w place target (Told place) e number) (more .0)
+            ∙ sym (ap (λ (k : ℕ). listedFrom k (w .length) (w .map) place) m ∙ listed-split mostHoles (n * mostHoles) (w .length) (w .map) place),
+        more .1
+            ∙ sym (ap (λ (k : ℕ). lastEnd place (listedFrom k (w .length) (w .map) place)) m ∙ last-split mostHoles (n * mostHoles) (w .length) (w .map) place),
+      ))
+
+  -- each is accepted as a request for 1 to 49 holes
+  pub each-lists : (n place : ℕ) → EachFrame (Lists w) (sentFrom n w target place)
+  each-lists = by-run
+      (λ n place frames after. EachFrame (Lists w) frames)
+      (λ place. tt)
+      (λ n place k e. tt)
+      (λ n place frames after e more. (
+        record {
+          count = length (holesFrom w place);
+          read = written-fill-is-read w place target (Told place) e number;
+          some = lists-some w place target (Told place) e .0;
+          most = lists-some w place target (Told place) e .1;
+        },
+        more,
+      ))
+
+  -- the holes of each ascend
+  pub each-ascends : (n place : ℕ) → EachFrame (λ frame. Ascending 0 (holesOf frame)) (sentFrom n w target place)
+  each-ascends = by-run
+      (λ n place frames after. EachFrame (λ frame. Ascending 0 (holesOf frame)) frames)
+      (λ place. tt)
+      (λ n place k e. tt)
+      (λ n place frames after e more. (
+        rw (written-holes-are-read w place target (Told place) e number)
+            (ascend-earlier 0 place (holesFrom w place) (omega arith) (ascending (w .length) (w .map) mostHoles place)),
+        more,
+      ))
+
+  module _ (right : wrongLength (w .length) ≡ false) (long : mapSize (w .length) ≤ length (w .map)) where
+    enough : w .length ≤ w .length * mostHoles + 0
+    enough = omega arith
+
+    all-listed : AllHoles (w .length) (w .map) (listedFrom (w .length * mostHoles) (w .length) (w .map) 0)
+    all-listed = record {
+      are-holes = all-are-holes (w .length) (w .map) (w .length * mostHoles) 0;
+      ascend = ascending (w .length) (w .map) (w .length * mostHoles) 0;
+      every-one = λ hole is. every-hole (w .length) (w .map) right long (w .length * mostHoles) 0 enough hole is (omega arith);
+      then-15 = ends-with-15 (w .length) (w .map) right long (w .length * mostHoles) 0 enough;
+    }
+
+    -- Repeated from 0, each time from the end returned, until 15: every hole exactly once, ascending, 1 to 49 in each.
+    pub whole-run : Whole w target (sentFrom (w .length) w target 0) (placeAfter (w .length) w target 0)
+    whole-run = record {
+      each = each-lists (w .length) 0;
+      all = rw (lists-all (w .length) 0 .0) all-listed;
+      then-15 =
+          fills-refused w (placeAfter (w .length) w target 0) target good 15
+          (ap (listing (w .length) (w .map)) (lists-all (w .length) 0 .1) ∙ all-listed .then-15);
+    }
