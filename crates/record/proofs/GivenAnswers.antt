@@ -1,31 +1,31 @@
 -- Which answer each operation gives: whether a list of bytes is a record, test by test, and a law for each reason.
 -- Assumes nothing.
 use mathlib.Core.Path.{_≡_, refl, sym, ap, ap₂, _∙_}
-use mathlib.Core.Bool.{Bool, true, false, not, _&&_, _||_}
-use mathlib.Core.List.{List}
-use Prim.Native.Nat.{ℕ, _*_, _≤_}
+use mathlib.Core.Bool.{Bool, true, false, cond, not, _&&_, _||_}
+use mathlib.Core.List.{List, [], _∷_}
+use Prim.Native.Nat.{ℕ, _+_, _*_, _≤_}
 use native.Mathlib.Omega.{arith}
 use lib.Dec.{eqb, ltb}
 use lib.ListN.{length, drop, length-drop}
 use lib.Seq.{length-take-le}
-use borrow.Author.Tests.{eq-eqb, ne-eqb, eqb-true, ltb-false, not-true}
+use borrow.Author.Tests.{eq-eqb, ne-eqb, eqb-true, ltb-false, le-leb, not-true, not-false}
 use Rattle.reason.specs.Answer.{accepted, refused, leaving}
+use Rattle.reason.specs.Order.{check}
 use Rattle.reason.proofs.Bools.{and-left, and-right, or-none}
-use Rattle.reason.proofs.OrderLaws.{skip, stop, none-left}
+use Rattle.reason.proofs.OrderLaws.{accepted-only-if, skip, stop, none-left}
 use Rattle.reason.proofs.Writing.{writes-refused, writes-accepted}
 use Rattle.octets.specs.Runs.{putIn, Put}
 use Rattle.octets.proofs.RunLaws.{put-fits}
 use Rattle.positions.specs.Map.{mapSize}
 use Rattle.reception.specs.Reception.{Reception, longest, wrongLength, shortSpace}
-use Rattle.reception.proofs.OfferLaws.{enough-space}
+use Rattle.reception.proofs.OfferLaws.{right-length, enough-space}
 use Rattle.record.specs.declared.Saved.the-variants as saved
 use Rattle.record.specs.declared.Recorded.{Recorded}
 use Rattle.record.specs.declared.RecordRead.the-variants.{Accepted, Refused}
 use Rattle.record.specs.Record.{recordOf, mapAt, bytesAt, recordLength}
-use Rattle.record.specs.Reading.{lengthIn, mapIn, bytesIn, fieldsRight, spareClear, unheldClear, isRecord, recordedIn, readRecord}
+use Rattle.record.specs.Reading.{lengthIn, mapIn, bytesIn, fieldsRight, spareClear, unheldClear, isRecord, recordedIn, readRecord, mapRead}
 use Rattle.record.specs.Saving.{saving, Saves}
 use Rattle.record.specs.Loading.{loading, loadedMap, loadedBuffer, Loads}
-use Rattle.record.proofs.RecordLaws.{right-length}
 
 -- ---- whether it is a record
 -- by its five tests
@@ -143,6 +143,22 @@ module _ (s : List ℕ) where
   pub reads : isRecord s ≡ true → readRecord s ≡ accepted (recordedIn s)
   unfolding readRecord
   reads e = skip 13 _ _ (ap not e) ∙ none-left (recordedIn s)
+
+-- what an accepted record says, and that it is one
+pub read-says : (s : List ℕ) (r : Recorded) → readRecord s ≡ accepted r → (isRecord s ≡ true) × (r ≡ recordedIn s)
+unfolding readRecord
+read-says s r e =
+    let all = accepted-only-if (check (not (isRecord s)) 13 ∷ []) (recordedIn s) r e in
+    (not-false (isRecord s) (all .0 .0), all .1)
+
+-- its map, as it is handed out
+pub map-handed-out : (s : List ℕ) (r : Recorded) → readRecord s ≡ accepted r → mapRead (accepted r) s ≡ mapIn s
+map-handed-out s r e =
+    let is = read-says s r e in
+    let f = is-formed s (is .0) in
+    let fits : mapAt + mapSize (lengthIn s) ≤ length s = omega (arith, f .long) in
+    ap (λ (x : Recorded). mapRead (accepted x) s) (is .1)
+    ∙ ap (λ (b : Bool). cond b (mapIn s) []) (le-leb (mapAt + mapSize (lengthIn s)) (length s) fits)
 
 -- ---- saving
 module _ (s : Reception) (target : List ℕ) where

@@ -18,12 +18,6 @@ use Rattle.positions.proofs.MapLaws.{map-long}
 use Rattle.reception.specs.Reception.{Reception, longest, wrongLength}
 use Rattle.record.specs.Record.{field, savedMap, savedBytes, recordOf, mapAt, bytesAt, recordLength}
 
--- a right length is 1 to 32,768
-pub right-length : (l : ℕ) → wrongLength l ≡ false → (1 ≤ l) × (l ≤ longest)
-right-length l e =
-    let w = not-false (leb 1 l && leb l longest) e in
-    (leb-true 1 l (and-left (leb 1 l) (leb l longest) w), leb-true l longest (and-right (leb 1 l) (leb l longest) w))
-
 -- the bytes before the map, and the bytes between the map and the file's bytes
 abbrev pub beforeMap : ℕ → ℕ → List ℕ
 beforeMap number l = field 1 (bytesOf 4 number) ++ field 2 (bytesOf 4 l) ++ 3 ∷ bytesOf 2 (mapSize l)

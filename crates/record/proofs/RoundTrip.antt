@@ -27,7 +27,8 @@ use Rattle.record.specs.Reading.{numberIn, lengthIn, mapIn, bytesIn, isR
 use Rattle.record.specs.Saving.{savingChecks, saving}
 use Rattle.record.specs.Loading.{loadingChecks, loading, loadedMap, loadedBuffer, loaded}
 use Rattle.record.specs.GivenBack.{GivesBack}
-use Rattle.record.proofs.RecordLaws.{right-length, saved-map-long, saved-bytes-long, record-long}
+use Rattle.reception.proofs.OfferLaws.{right-length}
+use Rattle.record.proofs.RecordLaws.{saved-map-long, saved-bytes-long, record-long}
 use Rattle.record.proofs.GivenAnswers.{Formed, is-formed, map-in-long, bytes-in-long, reads, saves, loads, room-to-save}
 use Rattle.record.proofs.SavedLaws.{saved-held, held-below, held-beyond, saved-byte-at, saved-number, saved-length, saved-map-in, saved-bytes-in, saved-formed}
 use Rattle.record.proofs.LoadedLaws.{front-byte, front-held, front-bytes, record-same, record-of-parts}

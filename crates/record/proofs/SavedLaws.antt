@@ -21,7 +21,8 @@ use Rattle.reception.specs.Reception.{Reception, longest, wrongLength}
 use Rattle.reception.specs.Held.{heldOf}
 use Rattle.record.specs.Record.{savedMap, savedBytes, recordOf, mapAt, bytesAt, recordLength}
 use Rattle.record.specs.Reading.{numberIn, lengthIn, mapIn, bytesIn, fieldAt, fieldsRight, spareClear, unheldClear, isRecord}
-use Rattle.record.proofs.RecordLaws.{right-length, beforeBytes, saved-map-long, saved-bytes-long, upToMap, pastMap, upToBytes, past-map-long, up-to-bytes-long, record-is, record-long}
+use Rattle.reception.proofs.OfferLaws.{right-length}
+use Rattle.record.proofs.RecordLaws.{beforeBytes, saved-map-long, saved-bytes-long, upToMap, pastMap, upToBytes, past-map-long, up-to-bytes-long, record-is, record-long}
 use Rattle.record.proofs.GivenAnswers.{formed-is}
 
 -- ---- the saved map and the saved bytes, position by position

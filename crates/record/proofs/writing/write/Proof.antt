@@ -3,7 +3,8 @@
 use native.Mathlib.Omega.{arith}
 use borrow.Author.Needs.{needs}
 use Rattle.reception.specs.Reception.{Reception}
-use Rattle.record.proofs.RecordLaws.{right-length, upToMap, pastMap, upToBytes, Written, front-put, map-put, tag-put, bytes-put}
+use Rattle.reception.proofs.OfferLaws.{right-length}
+use Rattle.record.proofs.RecordLaws.{upToMap, pastMap, upToBytes, Written, front-put, map-put, tag-put, bytes-put}
 use Rattle.record.proofs.writing.write.Statement.{statement}
 use Rattle.record.proofs.writing.write.Tie as tie
 

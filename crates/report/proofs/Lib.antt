@@ -1,0 +1,7 @@
+pub mod DigitLaws
+pub mod Writes
+pub mod TextLaws
+pub mod ReportLaws
+pub mod OnlyOne
+pub mod InOrder
+pub mod WholeInput

@@ -1,0 +1,66 @@
+-- What the text says of the whole input: it fits the space that `report` asks for, an input longer than the largest record is refused, and
+-- so it is enough to read one byte more than the largest record has.
+-- Assumes nothing.
+use mathlib.Core.Path.{_≡_, refl, sym, ap, _∙_}
+use mathlib.Core.Bool.{Bool, true, false, true≢false}
+use mathlib.Core.Logic.{⊎-elim}
+use mathlib.Core.List.{List}
+use Prim.Native.Nat.{ℕ, _≤_, _<_}
+use native.Mathlib.Omega.{arith}
+use lib.ListN.{length, take}
+use lib.Seq.{take-all, length-take-le}
+use borrow.Author.Tests.{ltb-false}
+use Rattle.reason.specs.Answer.{Answer, accepted, refused, leaving}
+use Rattle.reason.proofs.Bools.{le-or-lt}
+use Rattle.reason.proofs.OrderLaws.{accepted-only-if}
+use Rattle.octets.specs.Runs.{putIn}
+use Rattle.octets.proofs.RunLaws.{put-length}
+use Rattle.reception.specs.Reception.{longest, wrongLength}
+use Rattle.record.specs.declared.Recorded.{Recorded}
+use Rattle.record.specs.Record.{recordLength}
+use Rattle.record.specs.Reading.{mapIn, isRecord, readRecord}
+use Rattle.record.proofs.GivenAnswers.{is-formed, reads-13, reads, read-says}
+use Rattle.record.proofs.RoundTrip.{never-larger}
+use Rattle.report.specs.declared.Reported.{Reported}
+use Rattle.report.specs.declared.Reported.the-variants.{Accepted}
+use Rattle.report.specs.Text.{refusedLine, fileLines, longestText}
+use Rattle.report.specs.Reporting.{linesOf, textOf, reportingChecks, reporting, reportedAnswer, Reports}
+use Rattle.report.proofs.TextLaws.{fits, refusal-fits}
+
+-- The text of every input fits.
+pub text-fits : (s : List ℕ) → length (textOf s) ≤ longestText
+text-fits s = by (readRecord s) refl
+  where
+    by : (x : Answer Recorded) → readRecord s ≡ x → length (linesOf x s) ≤ longestText
+    by (accepted r) e = let says = read-says s r e in fits (r .number) (r .length) (mapIn s) (ap (λ (x : Recorded). wrongLength (x .length)) (says .1) ∙ is-formed s (says .0) .right)
+    by (refused n) e = refusal-fits n
+
+-- The size that is told is within the lent slice.
+pub told-within : (s out : List ℕ) (r : Reported) (left : List ℕ) (n : ℕ) → Reports s out r left → r ≡ Accepted n → n ≤ length left
+unfolding reporting
+told-within s out r left n w e =
+    let accepts : reporting s out ≡ accepted n = sym (w .answers) ∙ ap reportedAnswer e in
+    let is = accepted-only-if (reportingChecks out) (length (textOf s)) n accepts in
+    let room : longestText ≤ length out = ltb-false (length out) longestText (is .0 .0) in
+    let fit = text-fits s in
+    let made : left ≡ putIn out 0 (textOf s) = w .bytes ∙ ap (leaving (λ k. putIn out 0 (textOf s)) out) accepts in
+    let long = ap length made ∙ put-length out 0 (textOf s) (omega arith) in
+    omega (arith, is .1, long)
+
+-- An input of more bytes than the largest record has is refused 13.
+pub too-long-is-refused : (s : List ℕ) → recordLength longest < length s → textOf s ≡ refusedLine 13
+too-long-is-refused s h = by (isRecord s) refl
+  where
+    by : (b : Bool) → isRecord s ≡ b → textOf s ≡ refusedLine 13
+    by true e = absurd (let k = never-larger s e in omega arith)
+    by false e = ap (λ (x : Answer Recorded). linesOf x s) (reads-13 s e)
+
+-- So it is enough to read that many bytes and one more.
+pub cut-says-the-same : (s : List ℕ) (n : ℕ) → recordLength longest < n → textOf (take n s) ≡ textOf s
+cut-says-the-same s n h =
+    ⊎-elim
+    (λ w. ap textOf (take-all n s w))
+    (λ w.
+    let size : length (take n s) ≡ n = length-take-le n s (omega arith) in
+    too-long-is-refused (take n s) (omega arith) ∙ sym (too-long-is-refused s (omega arith)))
+    (le-or-lt (length s) n)
