@@ -1,3 +1,4 @@
+pub mod Cases
 pub mod ReadingLaws
 pub mod WritingLaws
 pub mod GatheringLaws
