@@ -1,3 +1,4 @@
+pub mod Cases
 pub mod ReadSteps
 pub mod PutLaws
 pub mod RecordLaws

@@ -1,3 +1,4 @@
+pub mod Cases
 pub mod DigitLaws
 pub mod Writes
 pub mod TextLaws
