@@ -75,8 +75,8 @@ module _ (w : Wanted) (place : ℕ) (target : List ℕ) (x : Written) (written :
   none-held = accepted-only-if (fillChecks w place target) Told x written
 
   -- both addresses can be written, a hole was listed, and the target has room
-  pub good : (isWritable (w .head .destination) && isWritable (w .head .source)) ≡ true
-  good = not-false _ (none-held .0 .0)
+  pub can-write : (isWritable (w .head .destination) && isWritable (w .head .source)) ≡ true
+  can-write = not-false _ (none-held .0 .0)
 
   pub listed : listing (w .length) (w .map) place ≡ accepted (holeFrom (w .length) (w .map) place)
   unfolding listing
@@ -108,8 +108,8 @@ module _ (w : Wanted) (place : ℕ) (target : List ℕ) (x : Written) (written :
   module _ (number : w .number < 256 ^ 4) where
     fill-is-makeable : Makeable (w .head) Holes (w .number) (holesFrom w place)
     fill-is-makeable = record {
-      destination = and-left (isWritable (w .head .destination)) (isWritable (w .head .source)) good;
-      source = and-right (isWritable (w .head .destination)) (isWritable (w .head .source)) good;
+      destination = and-left (isWritable (w .head .destination)) (isWritable (w .head .source)) can-write;
+      source = and-right (isWritable (w .head .destination)) (isWritable (w .head .source)) can-write;
       number-fits = number;
       as-many = and-both (leb 1 (length (holesFrom w place))) (leb (length (holesFrom w place)) mostHoles) (le-leb _ _ (lists-some .0)) (le-leb _ _ (lists-some .1));
       right = holes-are-right (w .length) (w .map) 0 (holesFrom w place) not-too-long

@@ -3,28 +3,32 @@
 -- Assumes nothing.
 use mathlib.Core.Path.{_≡_, refl, sym, ap, ap₂, _∙_}
 use mathlib.Core.Bool.{Bool, true, false, _&&_}
+use mathlib.Core.Logic.{⊎-elim}
 use mathlib.Core.List.{List, [], _∷_, _++_}
 use Prim.Native.Nat.{ℕ, zero, suc, _+_, _*_, _^_, _≤_, _<_}
 use native.Mathlib.Nat.{zero-add}
 use native.Mathlib.Omega.{arith}
 use lib.ListN.{length}
 use Rattle.reason.specs.Answer.{Answer, accepted, refused}
+use Rattle.reason.proofs.Bools.{le-or-lt}
 use Rattle.reason.proofs.OrderLaws.{not-both}
 use Rattle.positions.specs.Map.{mapSize}
 use Rattle.ax25.specs.Address.{isWritable}
 use Rattle.reception.specs.declared.Hole.{Hole}
 use Rattle.reception.specs.Reception.{wrongLength}
+use Rattle.reception.specs.Holes.{holeStart, holeFrom}
 use Rattle.reception.specs.Listing.{listing}
 use Rattle.reception.specs.EveryHole.{endOf, goOn, listedFrom, lastEnd, Ascending, AllHoles}
+use Rattle.reception.proofs.GivenReasons.{lists-15, lists}
 use Rattle.reception.proofs.HoleLaws.{all-are-holes, ascending, every-hole, ends-with-15}
-use Rattle.reception.proofs.ListedLaws.{listed-none, listed-more, listed-most}
+use Rattle.reception.proofs.ListedLaws.{listed-needs, listed-none, listed-more, listed-most}
 use Rattle.request.specs.declared.Written.{Written}
 use Rattle.request.specs.Request.{mostHoles, holeLength, frameLength}
 use Rattle.request.specs.Reading.{holesOf}
 use Rattle.request.specs.Writing.{Wanted, holesFrom, filling}
 use Rattle.request.specs.Run.{sent, sendOn, sentFrom, placeOn, placeAfter, together, EachFrame, Lists, Whole}
 use Rattle.request.proofs.WritingLaws.{fills-refused, fills}
-use Rattle.request.proofs.SentLaws.{ascend-earlier, lists-some, written-fill-is-read, written-holes-are-read}
+use Rattle.request.proofs.SentLaws.{ascend-earlier, can-write, listed, tells, lists-some, written-fill-is-read, written-holes-are-read}
 
 -- questions in two runs: the second goes on where the first ended
 listed-split : (a b l : ℕ) (map : List ℕ) (place : ℕ)
@@ -49,6 +53,33 @@ last-split a b l map place =
     behind : (p : ℕ) (holes more : List Hole) → lastEnd p (holes ++ more) ≡ lastEnd (lastEnd p holes) more
     behind p [] more = refl
     behind p (hole ∷ holes) more = behind (endOf hole) holes more
+
+-- where fewer holes are listed than were asked for, none is left
+none-left : (l : ℕ) (map : List ℕ) → wrongLength l ≡ false → mapSize l ≤ length map → (n place : ℕ) → length (listedFrom n l map place) < n
+    → listing l map (lastEnd place (listedFrom n l map place)) ≡ refused 15
+none-left l map right long zero place h = absurd (omega arith)
+none-left l map right long (suc n) place h = by (listing l map place) refl h (λ hole k. none-left l map right long n (endOf hole) k)
+  where
+    by : (x : Answer Hole) → listing l map place ≡ x → length (goOn x (λ hole. listedFrom n l map (endOf hole))) < suc n
+        → ((hole : Hole) → length (listedFrom n l map (endOf hole)) < n → listing l map (lastEnd (endOf hole) (listedFrom n l map (endOf hole))) ≡ refused 15)
+        → listing l map (lastEnd place (goOn x (λ hole. listedFrom n l map (endOf hole)))) ≡ refused 15
+    by (accepted hole) e k more = more hole (omega arith)
+    by (refused m) e k more =
+        ⊎-elim
+        (λ w. lists-15 l map place right long w)
+        (λ w. absurd (not-both (holeFrom l map place) m (lists l map place right long w) e))
+        (le-or-lt l (holeStart l map place))
+
+-- A request of fewer than 49 holes is the last: asked from the end that it returned, the next is refused 15. So a station that stops there
+-- has read the map once.
+pub fewer-is-the-last : (w : Wanted) (place : ℕ) (target : List ℕ) (x : Written) → filling w place target ≡ accepted x → x .count < mostHoles
+    → filling w (x .end) target ≡ refused 15
+fewer-is-the-last w place target x written h =
+    let is = tells w place target x written in
+    let size : x .count ≡ length (holesFrom w place) = ap (λ (y : Written). y .count) is in
+    let needs = listed-needs (w .length) (w .map) place _ (listed w place target x written) in
+    fills-refused w (x .end) target (can-write w place target x written) 15
+    (ap (λ (y : Written). listing (w .length) (w .map) (y .end)) is ∙ none-left (w .length) (w .map) (needs .0) (needs .1) mostHoles place (omega arith))
 
 -- A station that can send: its addresses can be written, the file's number has 32 bits, and a target with room for 49 holes.
 module _ (w : Wanted) (target : List ℕ) (good : (isWritable (w .head .destination) && isWritable (w .head .source)) ≡ true) (number : w .number < 256 ^ 4)
