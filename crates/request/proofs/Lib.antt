@@ -8,3 +8,4 @@ pub mod RoundTrip
 pub mod SentLaws
 pub mod WholeRun
 pub mod Naming
+pub mod WrittenAgain

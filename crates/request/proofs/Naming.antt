@@ -78,7 +78,7 @@ times-both (hole ∷ a) b p =
     ∙ sym (add-assoc (cond (within (hole .start) (hole .length) p) 1 0) (times a p) (times b p))
 
 -- before the first hole that ascends from a place, none
-none-before : (low : ℕ) (holes : List Hole) (p : ℕ) → Ascending low holes → p < low → (names holes p ≡ false) × (times holes p ≡ 0)
+pub none-before : (low : ℕ) (holes : List Hole) (p : ℕ) → Ascending low holes → p < low → (names holes p ≡ false) × (times holes p ≡ 0)
 unfolding times
 none-before low [] p up h = (refl, refl)
 none-before low (hole ∷ holes) p up h =
