@@ -12,7 +12,7 @@ use lib.Dec.{leb, ltb}
 use lib.ListN.{length}
 use borrow.Author.Tests.{leb-true, ltb-true}
 use Rattle.reason.specs.Answer.{accepted}
-use Rattle.reason.proofs.Bools.{and-left, and-right, or-cases}
+use Rattle.reason.proofs.Bools.{and-left, and-right, or-cases, or-none}
 use Rattle.positions.specs.Spans.{within}
 use Rattle.positions.specs.Map.{held, mapSize}
 use Rattle.positions.proofs.SpanLaws.{in-span, before-span}
@@ -78,13 +78,20 @@ times-both (hole ∷ a) b p =
     ∙ sym (add-assoc (cond (within (hole .start) (hole .length) p) 1 0) (times a p) (times b p))
 
 -- before the first hole that ascends from a place, none
-pub none-before : (low : ℕ) (holes : List Hole) (p : ℕ) → Ascending low holes → p < low → (names holes p ≡ false) × (times holes p ≡ 0)
-unfolding times
-none-before low [] p up h = (refl, refl)
+pub none-before : (low : ℕ) (holes : List Hole) (p : ℕ) → Ascending low holes → p < low → names holes p ≡ false
+none-before low [] p up h = refl
 none-before low (hole ∷ holes) p up h =
-    let rest = none-before (suc (endOf hole)) holes p (up .1) (omega (arith, up .0)) in
-    let out : within (hole .start) (hole .length) p ≡ false = before-span (hole .start) (hole .length) p (omega (arith, up .0)) in
-    (ap₂ (λ (a b : Bool). a || b) out (rest .0), ap₂ (λ (a : Bool) (n : ℕ). cond a 1 0 + n) out (rest .1))
+    ap₂ (λ (a b : Bool). a || b)
+    (before-span (hole .start) (hole .length) p (omega (arith, up .0)))
+    (none-before (suc (endOf hole)) holes p (up .1) (omega (arith, up .0)))
+
+-- no times, where none is named
+not-named : (holes : List Hole) (p : ℕ) → names holes p ≡ false → times holes p ≡ 0
+unfolding times
+not-named [] p e = refl
+not-named (hole ∷ holes) p e =
+    let none = or-none (within (hole .start) (hole .length) p) (names holes p) e in
+    ap₂ (λ (a : Bool) (n : ℕ). cond a 1 0 + n) (none .0) (not-named holes p (none .1))
 
 -- of holes that ascend a position stands in one at most
 once : (low : ℕ) (holes : List Hole) (p : ℕ) → Ascending low holes → times holes p ≡ cond (names holes p) 1 0
@@ -96,7 +103,7 @@ once low (hole ∷ holes) p up = by (within (hole .start) (hole .length) p) refl
         → cond b 1 0 + times holes p ≡ cond (b || names holes p) 1 0
     by true e rest =
         let to = ltb-true p (endOf hole) (and-right (leb (hole .start) p) (ltb p (endOf hole)) e) in
-        ap (λ (n : ℕ). 1 + n) (none-before (suc (endOf hole)) holes p (up .1) (omega arith) .1) ∙ add-zero 1
+        ap (λ (n : ℕ). 1 + n) (not-named holes p (none-before (suc (endOf hole)) holes p (up .1) (omega arith))) ∙ add-zero 1
     by false e rest = zero-add (times holes p) ∙ rest
 
 -- how many frames name it is how many of their holes it stands in

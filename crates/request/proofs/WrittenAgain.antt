@@ -68,7 +68,7 @@ right-ascends low (hole ∷ holes) right = (
 )
 
 none-earlier : (low : ℕ) (holes : List Hole) (p : ℕ) → holesRight low holes ≡ true → p < low → names holes p ≡ false
-none-earlier low holes p right h = none-before low holes p (right-ascends low holes right) h .0
+none-earlier low holes p right h = none-before low holes p (right-ascends low holes right) h
 
 -- a position that they name is not before the first
 first-named : (low : ℕ) (hole : Hole) (holes : List Hole) (p : ℕ) → holesRight low (hole ∷ holes) ≡ true → names (hole ∷ holes) p ≡ true → hole .start ≤ p
