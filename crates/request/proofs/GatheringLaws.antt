@@ -102,7 +102,8 @@ gathered-fits l map place entries count end reason entries′ room g =
     omega (arith, g .counted, same)
 
 -- ---- the answer, by what was gathered
-module _ (w : Wanted) (place : ℕ) (target : List ℕ) (good : (isWritable (w .head .destination) && isWritable (w .head .source)) ≡ true) (entries : List ℕ)
+module _ (w : Wanted) (place : ℕ) (target : List ℕ) (good : (isWritable (w .head .destination) && isWritable (w .head .source)) ≡ true)
+    (entries : List ℕ)
     (count end reason : ℕ) (entries′ : List ℕ) (g : Gathers (w .length) (w .map) place entries count end reason entries′) where
   pub gathered-none : count ≡ 0 → Fills w place target (filled.Refused reason) target
   gathered-none z = fill-refused w place target reason (fills-refused w place target good reason (g .none z))
@@ -120,7 +121,8 @@ module _ (w : Wanted) (place : ℕ) (target : List ℕ) (good : (isWritable (w .
           fills w place target good (listed .0) (listed .1) (omega (arith, g .counted))
           ∙ sym (ap₂ (λ (x y : ℕ). accepted (record { count = x; end = y })) (g .counted) (g .ended))
 
-      pub gathered-written : mostHoles * holeLength ≤ length entries → (part before after : List ℕ) (q : Bool) → part ≡ take (count * holeLength) entries′
+      pub gathered-written : mostHoles * holeLength ≤ length entries → (part before after : List ℕ) (q : Bool)
+          → part ≡ take (count * holeLength) entries′
           → before ≡ putIn target 0 (headBytes (w .head .destination) (w .head .source) file ++ requestBefore Holes (w .number))
           → Put before (headLength + beforeHoles) part q after → Fills w place target (filled.Accepted (record { count = count; end = end })) after
       gathered-written space part before after q is e put =

@@ -18,7 +18,8 @@ unfolding readRequest
 read-request-in-order frame = exactly (requestOrder frame) (requestOf frame)
 
 pub write-fill-in-order : (w : Wanted) (place : ℕ) (target : List ℕ)
-    → Exactly (fillChecks w place target) (record { count = length (holesFrom w place); end = lastEnd place (holesFrom w place) }) (filling w place target)
+    → Exactly (fillChecks w place target) (record { count = length (holesFrom w place); end = lastEnd place (holesFrom w place) })
+    (filling w place target)
 unfolding filling
 write-fill-in-order w place target = exactly (fillChecks w place target) _
 

@@ -32,7 +32,8 @@ use Rattle.request.proofs.WholeRun.{each-ascends, whole-run}
 
 -- ---- what stands in holes of a map
 -- a position in holes of a map is not held, and below the length
-in-holes-unheld : (l : ℕ) (map : List ℕ) (holes : List Hole) (p : ℕ) → Each (IsHole l map) holes → names holes p ≡ true → (p < l) × (held map p ≡ false)
+in-holes-unheld : (l : ℕ) (map : List ℕ) (holes : List Hole) (p : ℕ) → Each (IsHole l map) holes → names holes p ≡ true
+    → (p < l) × (held map p ≡ false)
 in-holes-unheld l map [] p are e = absurd (true≢false (sym e))
 in-holes-unheld l map (hole ∷ holes) p are e =
     ⊎-elim
@@ -107,13 +108,16 @@ once low (hole ∷ holes) p up = by (within (hole .start) (hole .length) p) refl
     by false e rest = zero-add (times holes p) ∙ rest
 
 -- how many frames name it is how many of their holes it stands in
-frames-times : (frames : List (List ℕ)) (p : ℕ) → EachFrame (λ frame. Ascending 0 (holesOf frame)) frames → naming frames p ≡ times (together frames) p
+frames-times : (frames : List (List ℕ)) (p : ℕ) → EachFrame (λ frame. Ascending 0 (holesOf frame)) frames
+    → naming frames p ≡ times (together frames) p
 unfolding times
 frames-times [] p up = refl
 frames-times (frame ∷ frames) p up =
-    ap₂ (λ (a b : ℕ). a + b) (sym (once 0 (holesOf frame) p (up .0))) (frames-times frames p (up .1)) ∙ sym (times-both (holesOf frame) (together frames) p)
+    ap₂ (λ (a b : ℕ). a + b) (sym (once 0 (holesOf frame) p (up .0))) (frames-times frames p (up .1))
+    ∙ sym (times-both (holesOf frame) (together frames) p)
 
-module _ (w : Wanted) (target : List ℕ) (good : (isWritable (w .head .destination) && isWritable (w .head .source)) ≡ true) (number : w .number < 256 ^ 4)
+module _ (w : Wanted) (target : List ℕ) (good : (isWritable (w .head .destination) && isWritable (w .head .source)) ≡ true)
+    (number : w .number < 256 ^ 4)
     (room : frameLength mostHoles ≤ length target) (right : wrongLength (w .length) ≡ false) (long : mapSize (w .length) ≤ length (w .map)) where
   -- the frames of a whole run
   abbrev Frames : List (List ℕ)

@@ -34,7 +34,8 @@ only-one-fill w place target r q left also d e =
     only-one-told filledAnswer filled-case filled-back target (filling w place target) (λ x. putIn target 0 (fillFrame w place)) r q left also d e
 
 -- `write_start`
-pub only-one-start : (head : Head) (number : ℕ) (target : List ℕ) (r q : Outcome) (left also : List ℕ) → Wrote target (starting head number target) r left
+pub only-one-start : (head : Head) (number : ℕ) (target : List ℕ) (r q : Outcome) (left also : List ℕ)
+    → Wrote target (starting head number target) r left
     → Wrote target (starting head number target) q also → (r ≡ q) × (left ≡ also)
 only-one-start head number target r q left also d e = only-one-written target (starting head number target) r q left also d e
 

@@ -74,7 +74,8 @@ in-frame frame index =
 pub count-most : (s : List ℕ) → countRight s ≡ true → countIn s ≤ mostHoles
 count-most s = by (asksStart (byteAt s 0))
   where
-    by : (start : Bool) → cond start (eqb (length s) beforeHoles) (eqb (oddBytes s) 0 && leb 1 (countIn s) && leb (countIn s) mostHoles) ≡ true → countIn s ≤ mostHoles
+    by : (start : Bool) → cond start (eqb (length s) beforeHoles) (eqb (oddBytes s) 0 && leb 1 (countIn s) && leb (countIn s) mostHoles) ≡ true
+        → countIn s ≤ mostHoles
     by true e = let size = eqb-true (length s) beforeHoles e in omega arith
     by false e = leb-true (countIn s) mostHoles (and-right (eqb (oddBytes s) 0 && leb 1 (countIn s)) (leb (countIn s) mostHoles) e)
 

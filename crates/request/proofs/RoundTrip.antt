@@ -97,7 +97,8 @@ by-index : (f : ℕ → Hole) (i n : ℕ) → cond (ltb i n) (f i) noHole ≡ ge
 by-index f i n = by (le-or-lt n i)
   where
     by : (n ≤ i) ⊎ (i < n) → cond (ltb i n) (f i) noHole ≡ getD (valuesFrom f 0 n) i noHole
-    by (inl h) = ap (λ (b : Bool). cond b (f i) noHole) (le-ltb i n h) ∙ sym (List·getD-eq-default (valuesFrom f 0 n) noHole (rw (values-long f 0 n) h))
+    by (inl h) =
+        ap (λ (b : Bool). cond b (f i) noHole) (le-ltb i n h) ∙ sym (List·getD-eq-default (valuesFrom f 0 n) noHole (rw (values-long f 0 n) h))
     by (inr h) = ap (λ (b : Bool). cond b (f i) noHole) (lt-ltb i n h) ∙ sym (value-at f noHole n i h)
 
 -- ---- flags
@@ -167,7 +168,8 @@ module _ (head : Head) (asks : Asks) (number : ℕ) (holes : List Hole) (m : Mak
   info-says : requestFields head Info ≡ Said (length holes)
   unfolding requestFields
   info-says =
-      ap₂ (λ (x : Asks) (y : ℕ). record { head = head; asks = x; number = y; count = countIn Info }) (flags-ask asks) (number-of-bytes 4 number (m .number-fits))
+      ap₂ (λ (x : Asks) (y : ℕ). record { head = head; asks = x; number = y; count = countIn Info }) (flags-ask asks)
+      (number-of-bytes 4 number (m .number-fits))
       ∙ ap Said (counts .0)
 
   -- A request that is made is read as that request.
@@ -201,8 +203,10 @@ seven : (s : List ℕ) → AllBytes s → beforeHoles ≤ length s → flagsAllo
 seven s a l f size =
     let number : bytesOf 4 (numberAt 4 s 1) ≡ take 4 (drop 1 s) = bytes-back 4 s 1 a (omega arith) in
     let block : bytesOf 2 blockSize ≡ take 2 (drop 5 s) = ap (bytesOf 2) (sym size) ∙ bytes-back 2 s 5 a (omega arith) in
-    let five : take 2 (drop 5 s) ++ drop 7 s ≡ drop 5 s = ap (λ (r : List ℕ). take 2 (drop 5 s) ++ r) (sym (drop-drop 2 5 s)) ∙ take-append-drop 2 (drop 5 s) in
-    let one : take 4 (drop 1 s) ++ drop 5 s ≡ drop 1 s = ap (λ (r : List ℕ). take 4 (drop 1 s) ++ r) (sym (drop-drop 4 1 s)) ∙ take-append-drop 4 (drop 1 s) in
+    let five : take 2 (drop 5 s) ++ drop 7 s ≡ drop 5 s = ap (λ (r : List ℕ). take 2 (drop 5 s) ++ r) (sym (drop-drop 2 5 s))
+    ∙ take-append-drop 2 (drop 5 s) in
+    let one : take 4 (drop 1 s) ++ drop 5 s ≡ drop 1 s = ap (λ (r : List ℕ). take 4 (drop 1 s) ++ r) (sym (drop-drop 4 1 s))
+    ∙ take-append-drop 4 (drop 1 s) in
     ap₂ (λ (x y : List ℕ). (flagsOf (asksBy (byteAt s 0)) ∷ (x ++ y)) ++ drop 7 s) number block
     ∙ ap₂ (λ (b : ℕ) (r : List ℕ). b ∷ r) (asked-flags (byteAt s 0) f)
     (append-assoc (take 4 (drop 1 s)) (take 2 (drop 5 s)) (drop 7 s) ∙ ap (λ (r : List ℕ). take 4 (drop 1 s) ++ r) five ∙ one)
@@ -261,7 +265,8 @@ module _ (frame : List ℕ) (bytes : AllBytes frame) (r : Request) (read : readR
 
   information-is : information (asksBy (byteAt S 0)) (numberAt 4 S 1) (holesIn S) ≡ S
   information-is =
-      ap (λ (l : List ℕ). requestBefore (asksBy (byteAt S 0)) (numberAt 4 S 1) ++ l) (read-are-spelled S 0 (countIn S) byte-of (count-exact S long counted .0))
+      ap (λ (l : List ℕ). requestBefore (asksBy (byteAt S 0)) (numberAt 4 S 1) ++ l)
+      (read-are-spelled S 0 (countIn S) byte-of (count-exact S long counted .0))
       ∙ seven S byte-of long flagged (eqb-true (numberAt 2 S 5) blockSize (and-left (eqb (numberAt 2 S 5) blockSize) (countRight S) sized))
 
   -- An accepted frame is the frame of its fields and of its holes ..
@@ -286,7 +291,8 @@ module _ (frame : List ℕ) (bytes : AllBytes frame) (r : Request) (read : readR
       })
 
 -- Two frames that are accepted with the same fields and the same holes are the same frame.
-pub request-has-one-frame : (f g : List ℕ) → AllBytes f → AllBytes g → (r : Request) → readRequest f ≡ accepted r → readRequest g ≡ accepted r → holesOf f ≡ holesOf g
+pub request-has-one-frame : (f g : List ℕ) → AllBytes f → AllBytes g → (r : Request) → readRequest f ≡ accepted r → readRequest g ≡ accepted r
+    → holesOf f ≡ holesOf g
     → f ≡ g
 request-has-one-frame f g bf bg r df dg same =
     sym (accepted-request-is-made f bf r df)

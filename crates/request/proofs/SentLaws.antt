@@ -55,7 +55,8 @@ holes-are-right l map low (hole ∷ holes) h up are =
     (holes-are-right l map (suc (endOf hole)) holes h (up .1) (are .1))
 
 -- how many bytes a request's frame has
-pub frame-long : (head : Head) (asks : Asks) (number : ℕ) (holes : List Hole) → length (requestFrame head asks number holes) ≡ frameLength (length holes)
+pub frame-long : (head : Head) (asks : Asks) (number : ℕ) (holes : List Hole)
+    → length (requestFrame head asks number holes) ≡ frameLength (length holes)
 unfolding requestFrame headBytes
 frame-long head asks number holes =
     omega
@@ -103,7 +104,8 @@ module _ (w : Wanted) (place : ℕ) (target : List ℕ) (x : Written) (written :
   pub sent-is : sent w place target x ≡ fillFrame w place
   sent-is =
       ap (λ (y : Written). sent w place target y) tells
-      ∙ frame-stands target (fillFrame w place) (frameLength (length (holesFrom w place))) (frame-long (w .head) Holes (w .number) (holesFrom w place)) room
+      ∙ frame-stands target (fillFrame w place) (frameLength (length (holesFrom w place)))
+      (frame-long (w .head) Holes (w .number) (holesFrom w place)) room
 
   module _ (number : w .number < 256 ^ 4) where
     fill-is-makeable : Makeable (w .head) Holes (w .number) (holesFrom w place)
@@ -111,14 +113,17 @@ module _ (w : Wanted) (place : ℕ) (target : List ℕ) (x : Written) (written :
       destination = and-left (isWritable (w .head .destination)) (isWritable (w .head .source)) can-write;
       source = and-right (isWritable (w .head .destination)) (isWritable (w .head .source)) can-write;
       number-fits = number;
-      as-many = and-both (leb 1 (length (holesFrom w place))) (leb (length (holesFrom w place)) mostHoles) (le-leb _ _ (lists-some .0)) (le-leb _ _ (lists-some .1));
+      as-many =
+          and-both (leb 1 (length (holesFrom w place))) (leb (length (holesFrom w place)) mostHoles) (le-leb _ _ (lists-some .0))
+          (le-leb _ _ (lists-some .1));
       right = holes-are-right (w .length) (w .map) 0 (holesFrom w place) not-too-long
           (ascend-earlier 0 place (holesFrom w place) (omega arith) (ascending (w .length) (w .map) mostHoles place))
           (all-are-holes (w .length) (w .map) mostHoles place);
     }
 
     -- A written request is read as what was written: its addresses, its number and the count that was returned ..
-    pub written-fill-is-read : readRequest (sent w place target x) ≡ accepted (record { head = w .head; asks = Holes; number = w .number; count = x .count })
+    pub written-fill-is-read : readRequest (sent w place target x) ≡ accepted
+        (record { head = w .head; asks = Holes; number = w .number; count = x .count })
     written-fill-is-read =
         ap readRequest sent-is
         ∙ made-request-is-read (w .head) Holes (w .number) (holesFrom w place) fill-is-makeable
@@ -137,7 +142,8 @@ written-start-is-read head number target left e small =
     let both = not-false _ (all .0 .0) in
     let stands : take (frameLength 0) left ≡ requestFrame head Start number [] =
     ap (take (frameLength 0)) (all .1)
-    ∙ frame-stands target (requestFrame head Start number []) (frameLength 0) (frame-long head Start number []) (ltb-false (length target) (frameLength 0) (all .0 .1 .0)) in
+    ∙ frame-stands target (requestFrame head Start number []) (frameLength 0) (frame-long head Start number [])
+    (ltb-false (length target) (frameLength 0) (all .0 .1 .0)) in
     ap readRequest stands
     ∙ made-request-is-read head Start number []
     (record {

@@ -46,9 +46,11 @@ listed-split (suc a) b l map place =
     by (refused k) e more = sym (listed-none l map place b k e)
 
 last-split : (a b l : ℕ) (map : List ℕ) (place : ℕ)
-    → lastEnd place (listedFrom (a + b) l map place) ≡ lastEnd (lastEnd place (listedFrom a l map place)) (listedFrom b l map (lastEnd place (listedFrom a l map place)))
+    → lastEnd place (listedFrom (a + b) l map place) ≡ lastEnd (lastEnd place (listedFrom a l map place))
+    (listedFrom b l map (lastEnd place (listedFrom a l map place)))
 last-split a b l map place =
-    ap (lastEnd place) (listed-split a b l map place) ∙ behind place (listedFrom a l map place) (listedFrom b l map (lastEnd place (listedFrom a l map place)))
+    ap (lastEnd place) (listed-split a b l map place)
+    ∙ behind place (listedFrom a l map place) (listedFrom b l map (lastEnd place (listedFrom a l map place)))
   where
     behind : (p : ℕ) (holes more : List Hole) → lastEnd p (holes ++ more) ≡ lastEnd (lastEnd p holes) more
     behind p [] more = refl
@@ -82,7 +84,8 @@ fewer-is-the-last w place target x written h =
     (ap (λ (y : Written). listing (w .length) (w .map) (y .end)) is ∙ none-left (w .length) (w .map) (needs .0) (needs .1) mostHoles place (omega arith))
 
 -- A station that can send: its addresses can be written, the file's number has 32 bits, and a target with room for 49 holes.
-module _ (w : Wanted) (target : List ℕ) (good : (isWritable (w .head .destination) && isWritable (w .head .source)) ≡ true) (number : w .number < 256 ^ 4)
+module _ (w : Wanted) (target : List ℕ) (good : (isWritable (w .head .destination) && isWritable (w .head .source)) ≡ true)
+    (number : w .number < 256 ^ 4)
     (room : frameLength mostHoles ≤ length target) where
   abbrev Told : ℕ → Written
   Told place = record { count = length (holesFrom w place); end = lastEnd place (holesFrom w place) }

@@ -41,7 +41,8 @@ holes-long (hole ∷ holes) = omega (arith, length-append (holeBytes hole) (hole
 -- ---- the runs of a frame
 module _ (target : List ℕ) (d s : Address) where
   -- the head, and the seven bytes behind it
-  pub head-and-seven : (isWritable d ≡ true) → (isWritable s ≡ true) → headLength + beforeHoles ≤ length target → (seven before after run : List ℕ) (r : Outcome) (q : Bool)
+  pub head-and-seven : (isWritable d ≡ true) → (isWritable s ≡ true) → headLength + beforeHoles ≤ length target
+      → (seven before after run : List ℕ) (r : Outcome) (q : Bool)
       → length run ≡ beforeHoles → seven ≡ run → Wrote target (writeHead target d s file) r before → Put before headLength seven q after
       → after ≡ putIn target 0 (headBytes d s file ++ run)
   unfolding headBytes
@@ -51,7 +52,8 @@ module _ (target : List ℕ) (d s : Address) where
       (rw is at put) (omega arith)
 
   -- .. and the holes behind both
-  pub and-holes : (asks : Asks) (number : ℕ) (holes : List Hole) (entries part before after : List ℕ) (q : Bool) → frameLength (length holes) ≤ length target
+  pub and-holes : (asks : Asks) (number : ℕ) (holes : List Hole) (entries part before after : List ℕ) (q : Bool)
+      → frameLength (length holes) ≤ length target
       → length holes * holeLength ≤ length entries
       → part ≡ take (length holes * holeLength) (putIn entries 0 (holesBytes holes))
       → before ≡ putIn target 0 (headBytes d s file ++ requestBefore asks number) → Put before (headLength + beforeHoles) part q after
@@ -62,12 +64,14 @@ module _ (target : List ℕ) (d s : Address) where
       is
       ∙ ap (λ (n : ℕ). take n (putIn entries 0 (holesBytes holes))) (sym (holes-long holes))
       ∙ put-part entries 0 (holesBytes holes) (omega (arith, holes-long holes)) in
-      put-more target 0 (headBytes d s file ++ requestBefore asks number) (holesBytes holes) before q after e (rw run at put) (omega (arith, holes-long holes))
+      put-more target 0 (headBytes d s file ++ requestBefore asks number) (holesBytes holes) before q after e (rw run at put)
+      (omega (arith, holes-long holes))
       ∙ ap (putIn target 0) (append-assoc (headBytes d s file) (requestBefore asks number) (holesBytes holes))
 
 -- ---- a request for the start
 module _ (head : Head) (number : ℕ) (target : List ℕ) where
-  pub start-2 : (isWritable (head .destination) && isWritable (head .source)) ≡ false → Wrote target (starting head number target) (outcome.Refused 2) target
+  pub start-2 : (isWritable (head .destination) && isWritable (head .source)) ≡ false
+      → Wrote target (starting head number target) (outcome.Refused 2) target
   unfolding starting
   start-2 g = wrote-refused target (starting head number target) target 2 (stop _ _ _ (ap not g)) refl
 
@@ -103,14 +107,16 @@ module _ (w : Wanted) (place : ℕ) (target : List ℕ) where
     unfolding filling listing
     fills-refused n e =
         skip _ _ _ (ap not good)
-        ∙ refused-then (listingChecks (w .length) (w .map) place) (check (shortTarget target Count) 12 ∷ []) (holeFrom (w .length) (w .map) place) Told n e
+        ∙ refused-then (listingChecks (w .length) (w .map) place) (check (shortTarget target Count) 12 ∷ [])
+        (holeFrom (w .length) (w .map) place) Told n e
 
     module _ (hole : Hole) (listed : listing (w .length) (w .map) place ≡ accepted hole) where
       past-15 : filling w place target ≡ firstOf (check (shortTarget target Count) 12 ∷ []) Told
       unfolding filling listing
       past-15 =
           skip _ _ _ (ap not good)
-          ∙ accepted-then (listingChecks (w .length) (w .map) place) (check (shortTarget target Count) 12 ∷ []) (holeFrom (w .length) (w .map) place) hole Told listed
+          ∙ accepted-then (listingChecks (w .length) (w .map) place) (check (shortTarget target Count) 12 ∷ [])
+          (holeFrom (w .length) (w .map) place) hole Told listed
 
       pub fills-12 : length target < frameLength Count → filling w place target ≡ refused 12
       fills-12 h = past-15 ∙ stop _ _ _ (lt-ltb _ _ h)

@@ -71,7 +71,8 @@ none-earlier : (low : ℕ) (holes : List Hole) (p : ℕ) → holesRight low hole
 none-earlier low holes p right h = none-before low holes p (right-ascends low holes right) h
 
 -- a position that they name is not before the first
-first-named : (low : ℕ) (hole : Hole) (holes : List Hole) (p : ℕ) → holesRight low (hole ∷ holes) ≡ true → names (hole ∷ holes) p ≡ true → hole .start ≤ p
+first-named : (low : ℕ) (hole : Hole) (holes : List Hole) (p : ℕ) → holesRight low (hole ∷ holes) ≡ true → names (hole ∷ holes) p ≡ true
+    → hole .start ≤ p
 unfolding holesRight
 first-named low hole holes p right e =
     ⊎-elim (λ w. w)
@@ -172,7 +173,8 @@ module _ (all : List Hole) where
       ∙ ap (λ (l : List Hole). hole ∷ l) (all-are-listed n (endOf hole) (suc (endOf hole)) holes (omega arith) (next-left place low hole holes left))
 
 -- Right holes, up to 49, are the holes of that map.
-pub right-holes-are-listed : (holes : List Hole) → holesRight 0 holes ≡ true → length holes ≤ mostHoles → listedFrom mostHoles longest (allBut holes) 0 ≡ holes
+pub right-holes-are-listed : (holes : List Hole) → holesRight 0 holes ≡ true → length holes ≤ mostHoles
+    → listedFrom mostHoles longest (allBut holes) 0 ≡ holes
 right-holes-are-listed holes right few =
     all-are-listed holes mostHoles 0 0 holes few (record { right = right; behind = inl refl; same = λ p from. refl })
 
@@ -189,7 +191,8 @@ module _ (frame : List ℕ) (bytes : AllBytes frame) (r : Request) (read : readR
   both = and-both (isWritable (r .head .destination)) (isWritable (r .head .source)) (can .destination) (can .source)
 
   -- An accepted request for the start is what writing its addresses and its number gives.
-  pub accepted-start-is-written : r .asks ≡ Start → frameLength 0 ≤ length target → starting (r .head) (r .number) target ≡ accepted (putIn target 0 frame)
+  pub accepted-start-is-written : r .asks ≡ Start → frameLength 0 ≤ length target
+      → starting (r .head) (r .number) target ≡ accepted (putIn target 0 frame)
   unfolding starting
   accepted-start-is-written e room =
       let none : holesOf frame ≡ [] = no-holes (holesOf frame) (ap (λ (a : Asks). holesOfKind a (length (holesOf frame))) (sym e) ∙ can .as-many) in
@@ -215,7 +218,8 @@ module _ (frame : List ℕ) (bytes : AllBytes frame) (r : Request) (read : readR
 
     -- An accepted list of holes is what writing gives that asks, from 0, for the holes of a file that misses just these.
     pub accepted-list-is-written : frameLength mostHoles ≤ length target
-        → (filling Missing 0 target ≡ accepted (record { count = length (holesOf frame); end = lastEnd 0 (holesOf frame) })) × (fillFrame Missing 0 ≡ frame)
+        → (filling Missing 0 target ≡ accepted (record { count = length (holesOf frame); end = lastEnd 0 (holesOf frame) })) ×
+        (fillFrame Missing 0 ≡ frame)
     accepted-list-is-written room =
         let some = some-listed longest (allBut (holesOf frame)) 0 mostHoles (omega (arith, ap length holes-are, counts .0)) in (
           fills Missing 0 target both (some .0) (some .1) (omega (arith, ap length holes-are, counts .1))

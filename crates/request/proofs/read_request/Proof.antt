@@ -43,7 +43,8 @@ unfolding readRequest
 returns c =
     let h = c .before .before .before in
     let r = h .before .before in
-    behind-head file (now (r .before .before .args .frame)) requestChecks requestFields _ (r .read-head .ensures) _ (h .head .given .1) _ (c .read .ensures)
+    behind-head file (now (r .before .before .args .frame)) requestChecks requestFields _ (r .read-head .ensures) _ (h .head .given .1) _
+    (c .read .ensures)
 
 returns-2 : tie.Need-returns-2
 unfolding readRequest

@@ -41,7 +41,8 @@ writable-requires-2 c κs = search needs
 returns : tie.Need-returns
 returns c =
     let s = c .before .before .before .before .before in
-    fill-refused (W s) (s .args .place) (now (s .args .target)) 2 (fills-2 (W s) (s .args .place) (now (s .args .target)) (sym (both (c .before)) ∙ not-true _ (c .if1 .taken)))
+    fill-refused (W s) (s .args .place) (now (s .args .target)) 2
+    (fills-2 (W s) (s .args .place) (now (s .args .target)) (sym (both (c .before)) ∙ not-true _ (c .if1 .taken)))
 
 slice-aggregate-gather : tie.Need-slice-aggregate-gather
 slice-aggregate-gather c = search needs
@@ -90,7 +91,8 @@ array-share-prefix-entries : tie.Need-array-share-prefix-entries
 array-share-prefix-entries c = part-fits (c .before .before .before .before .before .before .before .before .before .before)
 
 slice-aggregate-put : tie.Need-slice-aggregate-put
-slice-aggregate-put c = let g = c .before .before .before .before .before .before .before .before .before .before .before in sym (length-take-le _ _ (part-fits g))
+slice-aggregate-put c =
+    let g = c .before .before .before .before .before .before .before .before .before .before .before in sym (length-take-le _ _ (part-fits g))
 
 put-requires : tie.Need-put-requires
 put-requires c κs = search needs
@@ -107,7 +109,8 @@ returns-4 c =
     let g = t .before .before .before in
     let e = g .before .before in
     let s = e .before .before .before .before .before in
-    gathered-written (W s) (s .args .place) (now (s .args .target)) (goods e) _ _ _ _ _ (g .gather .ensures) (t .if2 .left) (omega (arith, x .if3 .left)) (lit≤ tt)
+    gathered-written (W s) (s .args .place) (now (s .args .target)) (goods e) _ _ _ _ _ (g .gather .ensures) (t .if2 .left)
+    (omega (arith, x .if3 .left)) (lit≤ tt)
     _ _ _ (p .put .result) refl (f .start-frame .ensures) (p .put .ensures)
 
 pub write-fill-spec : {M : Type 1} → statement M

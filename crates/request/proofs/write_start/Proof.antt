@@ -30,7 +30,8 @@ writable-requires-2 c κs = search needs
 returns : tie.Need-returns
 returns c =
     let a = c .before .before .before .before .args in
-    start-2 (record { destination = a .destination; source = a .source }) (a .number) (now (a .target)) (sym (both (c .before)) ∙ not-true _ (c .if1 .taken))
+    start-2 (record { destination = a .destination; source = a .source }) (a .number) (now (a .target))
+    (sym (both (c .before)) ∙ not-true _ (c .if1 .taken))
 
 returns-2 : tie.Need-returns-2
 returns-2 c =
@@ -51,7 +52,8 @@ returns-3 c =
     let f = c .before .before in
     let t = f .before .before in
     let a = t .before .before .before .before .before .args in
-    start-written (record { destination = a .destination; source = a .source }) (a .number) (now (a .target)) (goods (t .before)) (t .if2 .left) _ (f .start-frame .ensures)
+    start-written (record { destination = a .destination; source = a .source }) (a .number) (now (a .target)) (goods (t .before)) (t .if2 .left) _
+    (f .start-frame .ensures)
 
 pub write-start-spec : {M : Type 1} → statement M
 write-start-spec =

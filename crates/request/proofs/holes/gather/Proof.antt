@@ -22,7 +22,8 @@ abbrev μ-loop : tie.MeasureT-loop
 μ-loop l map place entries₀ count₀ end₀ entries count end = mostHoles - count
 
 -- the hole that was listed
-listed : (c : tie.After-next Inv-loop μ-loop) → (let l = c .before .before .before .before in let s = l .before .before .before in listing (s .args .l) (now (s .args .map)) (l .loop .end) ≡ accepted (c .next .given .0 .0))
+listed : (c : tie.After-next Inv-loop μ-loop)
+    → (let l = c .before .before .before .before in let s = l .before .before .before in listing (s .args .l) (now (s .args .map)) (l .loop .end) ≡ accepted (c .next .given .0 .0))
 listed c = sym (c .before .before .list .ensures) ∙ ap listedAnswer (c .next .given .1)
 
 within : (c : tie.After-next Inv-loop μ-loop) → endOf (c .next .given .0 .0) ≤ longest
@@ -95,7 +96,8 @@ returns-2 : tie.Need-returns-2 Inv-loop μ-loop
 returns-2 c =
     let l = c .before in
     let s = l .before .before .before in
-    all-listed (s .args .l) (now (s .args .map)) (s .args .place) (now (s .args .entries)) (s .pre) (l .loop .count) (l .loop .end) _ (l .loop .inv) (c .loop-test .left)
+    all-listed (s .args .l) (now (s .args .map)) (s .args .place) (now (s .args .entries)) (s .pre) (l .loop .count) (l .loop .end) _ (l .loop .inv)
+    (c .loop-test .left)
 
 pub gather-spec : {M : Type 1} → statement M
 gather-spec =

@@ -13,7 +13,8 @@ use Rattle.request.specs.Reading.{holeIn}
 use Rattle.request.proofs.ReadingLaws.{right-then, wrong-here, right-end}
 
 abbrev Inv-loop : tie.InvT-loop
-Inv-loop s count place₀ i₀ place i = (i ≤ count) × (holesRight place (valuesFrom (holeIn s) i (count - i)) ≡ holesRight 0 (valuesFrom (holeIn s) 0 count))
+Inv-loop s count place₀ i₀ place i =
+    (i ≤ count) × (holesRight place (valuesFrom (holeIn s) i (count - i)) ≡ holesRight 0 (valuesFrom (holeIn s) 0 count))
 
 abbrev μ-loop : tie.MeasureT-loop
 μ-loop s count place₀ i₀ place i = count - i
@@ -40,7 +41,8 @@ returns : tie.Need-returns Inv-loop μ-loop
 returns c =
     let l = c .before .before .before .before in
     let s = l .before .before in
-    wrong-here (s .args .s .now) (s .args .count) (l .loop .place) (l .loop .i) (c .before .before .hole-from .result) _ (c .before .before .before .loop-test .taken) (c .before .before .hole-from .ensures .0)
+    wrong-here (s .args .s .now) (s .args .count) (l .loop .place) (l .loop .i) (c .before .before .hole-from .result) _
+    (c .before .before .before .loop-test .taken) (c .before .before .hole-from .ensures .0)
     (sym (c .before .hole-right .ensures) ∙ not-true (c .before .hole-right .result) (c .if1 .taken)) (l .loop .inv .1)
 
 add-place : tie.Need-add-place Inv-loop μ-loop
@@ -61,7 +63,8 @@ loop-again c =
     let l = f .before .before in
     let s = l .before .before in (
       omega arith,
-      right-then (s .args .s .now) (s .args .count) (l .loop .place) (l .loop .i) (f .hole-from .result) _ (f .before .loop-test .taken) (f .hole-from .ensures .0)
+      right-then (s .args .s .now) (s .args .count) (l .loop .place) (l .loop .i) (f .hole-from .result) _ (f .before .loop-test .taken)
+          (f .hole-from .ensures .0)
           (sym (c .before .before .hole-right .ensures) ∙ not-false (c .before .before .hole-right .result) (c .before .if1 .left)) (l .loop .inv .1),
     )
 

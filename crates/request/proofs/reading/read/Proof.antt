@@ -37,7 +37,8 @@ both : (c : tie.After-count-right) → (let s = now (c .before .before .before .
     (eqb (c .before .number2 .result) blockSize && c .count-right .result) ≡ (eqb (numberAt 2 s 5) blockSize && countRight s))
 both c = ap₂ (λ (n : ℕ) (b : Bool). eqb n blockSize && b) (c .before .number2 .ensures) (c .count-right .ensures)
 
-sized : (c : tie.Else3) → (let s = now (c .before .before .before .before .before .before .before .before .args .s) in (eqb (numberAt 2 s 5) blockSize && countRight s) ≡ true)
+sized : (c : tie.Else3)
+    → (let s = now (c .before .before .before .before .before .before .before .before .args .s) in (eqb (numberAt 2 s 5) blockSize && countRight s) ≡ true)
 sized c = sym (both (c .before)) ∙ not-false _ (c .if3 .left)
 
 -- at most 49 holes
@@ -47,7 +48,8 @@ bounded c =
     rw (c .count-in .ensures) (count-most s (and-right (eqb (numberAt 2 s 5) blockSize) (countRight s) (sized (c .before))))
 
 -- the holes
-tested : (c : tie.After-holes-right) → c .holes-right .result ≡ holesRight 0 (holesIn (now (c .before .before .before .before .before .before .before .before .before .before .args .s)))
+tested : (c : tie.After-holes-right)
+    → c .holes-right .result ≡ holesRight 0 (holesIn (now (c .before .before .before .before .before .before .before .before .before .before .args .s)))
 tested c =
     let s = now (c .before .before .before .before .before .before .before .before .before .before .args .s) in
     c .holes-right .ensures ∙ ap (λ (n : ℕ). holesRight 0 (valuesFrom (holeIn s) 0 n)) (c .before .count-in .ensures)
@@ -62,7 +64,8 @@ flags-allowed-requires : tie.Need-flags-allowed-requires
 flags-allowed-requires c κs = search needs
 
 returns-2 : tie.Need-returns-2
-returns-2 c = sym (reads-5 (now (c .before .before .before .before .before .args .s)) _ (c .before .before .before .if1 .left) (sym (c .before .flags-allowed .ensures) ∙ not-true _ (c .if2 .taken)))
+returns-2 c =
+    sym (reads-5 (now (c .before .before .before .before .before .args .s)) _ (c .before .before .before .if1 .left) (sym (c .before .flags-allowed .ensures) ∙ not-true _ (c .if2 .taken)))
 
 number2-requires : tie.Need-number2-requires
 number2-requires c κs = search needs

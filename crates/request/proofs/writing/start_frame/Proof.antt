@@ -28,7 +28,8 @@ returns c =
     let v = p .before .before in
     let w = v .before .before .before .before in
     let s = w .before .before .before in
-    head-and-seven (now (s .args .target)) (s .args .destination) (s .args .source) (s .pre .0) (s .pre .1) (s .pre .2) _ _ _ _ (w .write-head .result) (p .put .result) refl (v .seven .ensures) (w .write-head .ensures) (p .put .ensures)
+    head-and-seven (now (s .args .target)) (s .args .destination) (s .args .source) (s .pre .0) (s .pre .1) (s .pre .2) _ _ _ _
+    (w .write-head .result) (p .put .result) refl (v .seven .ensures) (w .write-head .ensures) (p .put .ensures)
 
 pub start-frame-spec : {M : Type 1} → statement M
 start-frame-spec =
