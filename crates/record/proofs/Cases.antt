@@ -15,9 +15,9 @@ use Rattle.record.specs.declared.Recorded.{Recorded}
 use Rattle.record.specs.declared.Saved.the-variants as saved
 use Rattle.record.specs.declared.RecordRead.the-variants as record-read
 use Rattle.record.specs.Record.{field, savedMap, savedBytes, recordOf, recordLength}
-use Rattle.record.specs.Saving.{saving, savedAnswer}
+use Rattle.record.specs.Saving.{saving, savedAnswer, Saves}
 use Rattle.record.specs.Reading.{mapIn, bytesIn, isRecord, readRecord, mapRead, recordAnswer}
-use Rattle.record.specs.Loading.{loading, loadedMap, loadedBuffer, loaded}
+use Rattle.record.specs.Loading.{loading, loadedMap, loadedBuffer, loaded, Loads}
 
 -- the input of the hole program in 01: number 7, length 20, held 0 to 3 and 8 to 9
 abbrev sample : List ℕ
@@ -81,6 +81,8 @@ pub record Cases : Type 0 where
   pub map-of-9 : savedMap 9 (0xFF ∷ 0xFF ∷ []) ≡ 0xFF ∷ 0x01 ∷ []
   pub bytes-of-3 : savedBytes 3 (0xFD ∷ []) (1 ∷ 2 ∷ 3 ∷ 4 ∷ []) ≡ 1 ∷ 0 ∷ 3 ∷ []
   -- a field of more than 255 bytes, and how long records are
+  pub length-of-300 : take 7 (drop 7 (recordOf (sized 300 [] []))) ≡ 0x02 ∷ 0x04 ∷ 0x00 ∷ 0x2C ∷ 0x01 ∷ 0x00 ∷ 0x00 ∷ []
+  pub record-of-300 : readRecord (recordOf (sized 300 (replicate 38 0xFF) (rubbish 300))) ≡ says 0x12345678 300
   pub field-of-300 : take 3 (field 4 (replicate 300 5)) ≡ 0x04 ∷ 0x2C ∷ 0x01 ∷ []
   pub long-1 : recordLength 1 ≡ 22
   pub long-8 : recordLength 8 ≡ 29
@@ -90,6 +92,8 @@ pub record Cases : Type 0 where
   -- saving: 7, 12, on both sides and where two hold, and what is left in the target
   pub saves : saving kept (rubbish 43) ≡ accepted 43
   pub saves-in-longer : leaving (λ n. putIn (rubbish 45) 0 (recordOf kept)) (rubbish 45) (saving kept (rubbish 45)) ≡ sample ++ 9 ∷ 9 ∷ []
+  pub save-promise : Saves kept (rubbish 45) (saved.Accepted 43) (sample ++ 9 ∷ 9 ∷ [])
+  pub save-promise-refused : Saves kept (rubbish 42) (saved.Refused 12) (rubbish 42)
   pub save-refused-leaves : leaving (λ n. putIn (rubbish 42) 0 (recordOf kept)) (rubbish 42) (saving kept (rubbish 42)) ≡ rubbish 42
   pub save-length-0 : saving (sized 0 (1 ∷ []) (1 ∷ [])) (rubbish 43) ≡ refused 7
   pub save-length-1 : saving (sized 1 (1 ∷ []) (1 ∷ [])) (rubbish 22) ≡ accepted 22
@@ -131,12 +135,15 @@ pub record Cases : Type 0 where
   pub exchanged-fields : readRecord exchanged ≡ refused 13
   -- 13: the length out of range, another than the fields have, and with a high byte
   pub length-0 : readRecord of-nothing ≡ refused 13
+  pub length-32769 : readRecord (recordOf (sized 32769 [] [])) ≡ refused 13
   pub length-21 : readRecord (set sample 10 21) ≡ refused 13
   pub length-19 : readRecord (set sample 10 19) ≡ refused 13
   pub length-276 : readRecord (set sample 11 1) ≡ refused 13
   pub length-65556 : readRecord (set sample 12 1) ≡ refused 13
   pub length-16777236 : readRecord (set sample 13 1) ≡ refused 13
   -- 13: spare bits and unheld bytes; a position more, and any held byte, is another record
+  pub spare-bit-of-seven : readRecord (set smallest 17 0x81) ≡ refused 13
+  pub unheld-byte-0 : readRecord (set sample 17 0x0E) ≡ refused 13
   pub spare-bit-20 : readRecord (set sample 19 0x10) ≡ refused 13
   pub spare-bit-23 : readRecord (set sample 19 0x80) ≡ refused 13
   pub last-position : readRecord (set sample 19 0x08) ≡ says 7 20
@@ -157,12 +164,15 @@ pub record Cases : Type 0 where
   -- what loading leaves: spare bits cleared, what lies beyond as it was, and all of it where it refuses
   pub loaded-map : left-map sample (rubbish 5) (rubbish 22) ≡ 0x0F ∷ 0x03 ∷ 0x00 ∷ 9 ∷ 9 ∷ []
   pub loaded-buffer : left-buffer sample (rubbish 5) (rubbish 22) ≡ 0x41 ∷ 0x42 ∷ 0x43 ∷ 0x44 ∷ 0 ∷ 0 ∷ 0 ∷ 0 ∷ 0x45 ∷ 0x46 ∷ replicate 10 0 ++ 9 ∷ 9 ∷ []
+  pub load-promise : Loads sample (rubbish 5) (rubbish 22) (record-read.Accepted (record { number = 7; length = 20 })) (0x0F ∷ 0x03 ∷ 0x00 ∷ 9 ∷ 9 ∷ []) (0x41 ∷ 0x42 ∷ 0x43 ∷ 0x44 ∷ 0 ∷ 0 ∷ 0 ∷ 0 ∷ 0x45 ∷ 0x46 ∷ replicate 10 0 ++ 9 ∷ 9 ∷ [])
+  pub load-promise-refused : Loads sample (rubbish 2) (rubbish 20) (record-read.Refused 12) (rubbish 2) (rubbish 20)
   pub refused-12-map : left-map sample (rubbish 5) (rubbish 19) ≡ rubbish 5
   pub refused-12-buffer : left-buffer sample (rubbish 2) (rubbish 22) ≡ rubbish 22
   pub refused-13-map : left-map (take 42 sample) (rubbish 5) (rubbish 22) ≡ rubbish 5
   pub refused-13-buffer : left-buffer (take 42 sample) (rubbish 5) (rubbish 22) ≡ rubbish 22
   pub loaded-number : loaded sample (rubbish 3) (rubbish 20) .number ≡ 7
   pub loaded-length : loaded sample (rubbish 3) (rubbish 20) .length ≡ 20
+  pub smallest-saved-again : recordOf (loaded smallest (rubbish 1) (rubbish 1)) ≡ smallest
   pub saved-again : recordOf (loaded sample (rubbish 5) (rubbish 22)) ≡ sample
   -- the map of a record, by the answer that is handed in
   pub map-handed-out : mapRead (readRecord sample) sample ≡ 0x0F ∷ 0x03 ∷ 0x00 ∷ []
@@ -174,7 +184,7 @@ pub record Cases : Type 0 where
   pub saved-accepted : savedAnswer (saved.Accepted 43) ≡ accepted 43
   pub saved-refused : savedAnswer (saved.Refused 7) ≡ refused 7
   pub record-accepted : recordAnswer (record-read.Accepted (record { number = 7; length = 20 })) ≡ says 7 20
-  pub record-refused : recordAnswer (record-read.Refused 13) ≡ refused 13
+  pub record-refused : recordAnswer (record-read.Refused 12) ≡ refused 12
 
 pub cases : Cases
 unfolding firstOf putIn every bit held bitsFrom mapOf recordOf saving isRecord readRecord loading
@@ -187,6 +197,8 @@ cases = record {
   map-of-8 = refl;
   map-of-9 = refl;
   bytes-of-3 = refl;
+  length-of-300 = refl;
+  record-of-300 = refl;
   field-of-300 = refl;
   long-1 = refl;
   long-8 = refl;
@@ -195,6 +207,8 @@ cases = record {
   long-32768 = refl;
   saves = refl;
   saves-in-longer = refl;
+  save-promise = record { answers = refl; bytes = refl };
+  save-promise-refused = record { answers = refl; bytes = refl };
   save-refused-leaves = refl;
   save-length-0 = refl;
   save-length-1 = refl;
@@ -232,11 +246,14 @@ cases = record {
   length-of-4-high = refl;
   exchanged-fields = refl;
   length-0 = refl;
+  length-32769 = refl;
   length-21 = refl;
   length-19 = refl;
   length-276 = refl;
   length-65556 = refl;
   length-16777236 = refl;
+  spare-bit-of-seven = refl;
+  unheld-byte-0 = refl;
   spare-bit-20 = refl;
   spare-bit-23 = refl;
   last-position = refl;
@@ -255,12 +272,15 @@ cases = record {
   load-thirteen-before-twelve = refl;
   loaded-map = refl;
   loaded-buffer = refl;
+  load-promise = record { answers = refl; leaves-map = refl; leaves-buffer = refl };
+  load-promise-refused = record { answers = refl; leaves-map = refl; leaves-buffer = refl };
   refused-12-map = refl;
   refused-12-buffer = refl;
   refused-13-map = refl;
   refused-13-buffer = refl;
   loaded-number = refl;
   loaded-length = refl;
+  smallest-saved-again = refl;
   saved-again = refl;
   map-handed-out = refl;
   map-of-refused = refl;

@@ -19,7 +19,7 @@ use Rattle.positions.proofs.MapLaws.{map-bytes}
 use Rattle.reception.specs.Reception.{Reception, longest, wrongLength, shortSpace}
 use Rattle.reception.specs.Held.{heldOf}
 use Rattle.reception.specs.Contents.{HoldsOf, itself}
-use Rattle.reception.proofs.OfferLaws.{enough-space}
+use Rattle.reception.proofs.OfferLaws.{enough-space, right-length}
 use Rattle.reception.proofs.Holding.{same-reception}
 use Rattle.record.specs.declared.Recorded.{Recorded}
 use Rattle.record.specs.Record.{savedMap, savedBytes, recordOf, recordLength}
@@ -27,7 +27,6 @@ use Rattle.record.specs.Reading.{numberIn, lengthIn, mapIn, bytesIn, isR
 use Rattle.record.specs.Saving.{savingChecks, saving}
 use Rattle.record.specs.Loading.{loadingChecks, loading, loadedMap, loadedBuffer, loaded}
 use Rattle.record.specs.GivenBack.{GivesBack}
-use Rattle.reception.proofs.OfferLaws.{right-length}
 use Rattle.record.proofs.RecordLaws.{saved-map-long, saved-bytes-long, record-long}
 use Rattle.record.proofs.GivenAnswers.{Formed, is-formed, map-in-long, bytes-in-long, reads, saves, loads, room-to-save}
 use Rattle.record.proofs.SavedLaws.{saved-held, held-below, held-beyond, saved-byte-at, saved-number, saved-length, saved-map-in, saved-bytes-in, saved-formed}

@@ -12,7 +12,7 @@ use Rattle.reception.specs.Listing.{listing}
 use Rattle.record.specs.Reading.{isRecord, readRecord}
 use Rattle.report.specs.declared.Reported.the-variants.{Accepted, Refused}
 use Rattle.report.specs.Decimal.{places, decimal}
-use Rattle.report.specs.Text.{fileLine, holeLine, holeLines, refusedLine, longestText}
+use Rattle.report.specs.Text.{fileLine, holeLine, holeLines, refusedLine, fileLines, longestText}
 use Rattle.report.specs.Reporting.{linesOf, textOf, reporting, reportedAnswer}
 
 -- the input of the hole program in 01: number 7, length 20, held 0 to 3 and 8 to 9
@@ -59,6 +59,8 @@ pub record Cases : Type 0 where
   -- the lines apart
   pub file-line : fileLine 4294967295 32768 16384 ≡ 0x66 ∷ 0x69 ∷ 0x6C ∷ 0x65 ∷ 0x20 ∷ 0x34 ∷ 0x32 ∷ 0x39 ∷ 0x34 ∷ 0x39 ∷ 0x36 ∷ 0x37 ∷ 0x32 ∷ 0x39 ∷ 0x35 ∷ 0x20 ∷ 0x6C ∷ 0x65 ∷ 0x6E ∷ 0x67 ∷ 0x74 ∷ 0x68 ∷ 0x20 ∷ 0x33 ∷ 0x32 ∷ 0x37 ∷ 0x36 ∷ 0x38 ∷ 0x20 ∷ 0x68 ∷ 0x65 ∷ 0x6C ∷ 0x64 ∷ 0x20 ∷ 0x31 ∷ 0x36 ∷ 0x33 ∷ 0x38 ∷ 0x34 ∷ 0x0A ∷ []
   pub hole-line : holeLine (record { start = 32767; length = 1 }) ≡ 0x33 ∷ 0x32 ∷ 0x37 ∷ 0x36 ∷ 0x37 ∷ 0x20 ∷ 0x31 ∷ 0x0A ∷ []
+  pub four-holes : fileLines 7 8 (0xAA ∷ []) ≡ 0x66 ∷ 0x69 ∷ 0x6C ∷ 0x65 ∷ 0x20 ∷ 0x37 ∷ 0x20 ∷ 0x6C ∷ 0x65 ∷ 0x6E ∷ 0x67 ∷ 0x74 ∷ 0x68 ∷ 0x20 ∷ 0x38 ∷ 0x20 ∷ 0x68 ∷ 0x65 ∷ 0x6C ∷ 0x64 ∷ 0x20 ∷ 0x34 ∷ 0x0A ∷ 0x30 ∷ 0x20 ∷ 0x31 ∷ 0x0A ∷ 0x32 ∷ 0x20 ∷ 0x31 ∷ 0x0A ∷ 0x34 ∷ 0x20 ∷ 0x31 ∷ 0x0A ∷ 0x36 ∷ 0x20 ∷ 0x31 ∷ 0x0A ∷ []
+  pub no-spare-held : fileLines 7 4 (0x1F ∷ []) ≡ 0x66 ∷ 0x69 ∷ 0x6C ∷ 0x65 ∷ 0x20 ∷ 0x37 ∷ 0x20 ∷ 0x6C ∷ 0x65 ∷ 0x6E ∷ 0x67 ∷ 0x74 ∷ 0x68 ∷ 0x20 ∷ 0x34 ∷ 0x20 ∷ 0x68 ∷ 0x65 ∷ 0x6C ∷ 0x64 ∷ 0x20 ∷ 0x34 ∷ 0x0A ∷ []
   pub refused-line : refusedLine 7 ≡ 0x72 ∷ 0x65 ∷ 0x66 ∷ 0x75 ∷ 0x73 ∷ 0x65 ∷ 0x64 ∷ 0x20 ∷ 0x37 ∷ 0x0A ∷ []
   pub refused-by-answer : linesOf (refused 7) sample ≡ 0x72 ∷ 0x65 ∷ 0x66 ∷ 0x75 ∷ 0x73 ∷ 0x65 ∷ 0x64 ∷ 0x20 ∷ 0x37 ∷ 0x0A ∷ []
   pub longest : longestText ≡ 196654
@@ -66,6 +68,7 @@ pub record Cases : Type 0 where
   pub reported-accepted : reportedAnswer (Accepted 34) ≡ accepted 34
   pub reported-refused : reportedAnswer (Refused 12) ≡ refused 12
   pub no-room : reporting sample [] ≡ refused 12
+  pub little-room : reporting sample (replicate 100 0) ≡ refused 12
 
 pub cases : Cases
 unfolding firstOf every count first bit held listing isRecord readRecord places holeLines reporting
@@ -92,10 +95,13 @@ cases = record {
   decimal-4294967295 = refl;
   file-line = refl;
   hole-line = refl;
+  four-holes = refl;
+  no-spare-held = refl;
   refused-line = refl;
   refused-by-answer = refl;
   longest = refl;
   reported-accepted = refl;
   reported-refused = refl;
   no-room = refl;
+  little-room = refl;
 }

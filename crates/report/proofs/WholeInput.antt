@@ -4,7 +4,7 @@
 use mathlib.Core.Path.{_≡_, refl, sym, ap, _∙_}
 use mathlib.Core.Bool.{Bool, true, false, true≢false}
 use mathlib.Core.Logic.{⊎-elim}
-use mathlib.Core.List.{List}
+use mathlib.Core.List.{List, _++_}
 use Prim.Native.Nat.{ℕ, _≤_, _<_}
 use native.Mathlib.Omega.{arith}
 use lib.ListN.{length, take}
@@ -15,17 +15,22 @@ use Rattle.reason.proofs.Bools.{le-or-lt}
 use Rattle.reason.proofs.OrderLaws.{accepted-only-if}
 use Rattle.octets.specs.Runs.{putIn}
 use Rattle.octets.proofs.RunLaws.{put-length}
+use Rattle.reception.specs.declared.Hole.{Hole}
 use Rattle.reception.specs.Reception.{longest, wrongLength}
+use Rattle.reception.specs.Held.{heldCount}
+use Rattle.reception.specs.EveryHole.{listedFrom, AllHoles}
+use Rattle.reception.proofs.HoleLaws.{all-holes}
 use Rattle.record.specs.declared.Recorded.{Recorded}
 use Rattle.record.specs.Record.{recordLength}
 use Rattle.record.specs.Reading.{mapIn, isRecord, readRecord}
-use Rattle.record.proofs.GivenAnswers.{is-formed, reads-13, reads, read-says}
+use Rattle.record.proofs.GivenAnswers.{is-formed, reads-13, reads, read-says, map-handed-out}
 use Rattle.record.proofs.RoundTrip.{never-larger}
 use Rattle.report.specs.declared.Reported.{Reported}
 use Rattle.report.specs.declared.Reported.the-variants.{Accepted}
-use Rattle.report.specs.Text.{refusedLine, fileLines, longestText}
+use Rattle.report.specs.Text.{fileLine, holeLines, refusedLine, fileLines, longestText}
 use Rattle.report.specs.Reporting.{linesOf, textOf, reportingChecks, reporting, reportedAnswer, Reports}
 use Rattle.report.proofs.TextLaws.{fits, refusal-fits}
+use Rattle.report.proofs.ReportLaws.{file-needs}
 
 -- The text of every input fits.
 pub text-fits : (s : List ℕ) → length (textOf s) ≤ longestText
@@ -64,3 +69,13 @@ cut-says-the-same s n h =
     let size : length (take n s) ≡ n = length-take-le n s (omega arith) in
     too-long-is-refused (take n s) (omega arith) ∙ sym (too-long-is-refused s (omega arith)))
     (le-or-lt (length s) n)
+
+-- The text of a record lists every hole of its map, once, ascending.
+pub text-lists-every-hole : (s : List ℕ) (r : Recorded) → readRecord s ≡ accepted r
+    → (holes : List Hole) × (AllHoles (r .length) (mapIn s) holes
+    × (textOf s ≡ fileLine (r .number) (r .length) (heldCount (r .length) (mapIn s)) ++ holeLines holes))
+text-lists-every-hole s r e =
+    let needs = file-needs s r e (mapIn s) (sym (map-handed-out s r e)) in (
+      listedFrom (r .length) (r .length) (mapIn s) 0,
+      (all-holes (r .length) (mapIn s) (needs .0) (needs .1), ap (λ (x : Answer Recorded). linesOf x s) e),
+    )

@@ -6,7 +6,6 @@ mod lines;
 mod number;
 
 use record::RecordRead;
-ghost use mathlib.Core.Path.{_≡_};
 ghost use Rattle.report.specs.Reporting.{Reports};
 
 // No text is longer than this.

@@ -25,8 +25,8 @@ use Rattle.request.specs.declared.RequestRead.the-variants as request
 use Rattle.request.specs.declared.Written.{Written}
 use Rattle.request.specs.declared.Filled.the-variants as filled
 use Rattle.request.specs.Request.{requestBefore, holeBytes, holesBytes, requestFrame, holesRight}
-use Rattle.request.specs.Reading.{holeSpelled, holeIn, requestChecks, requestFields, readRequest, requestAnswer, holeRead, holeAt, holesOf}
-use Rattle.request.specs.Writing.{Wanted, holesFrom, filling, fillFrame, filledAnswer, starting}
+use Rattle.request.specs.Reading.{countRight, holeSpelled, holeIn, requestChecks, requestFields, readRequest, requestAnswer, holeRead, holeAt, holesRead, holesOf}
+use Rattle.request.specs.Writing.{Wanted, holesFrom, filling, fillFrame, filledAnswer, Fills, starting}
 use Rattle.request.specs.Made.{holesOfKind}
 use Rattle.request.specs.Run.{sentFrom, placeAfter, together, naming}
 
@@ -104,6 +104,8 @@ pub record Cases : Type 0 where
   pub request-holes : holesFrom twenty 0 ≡ hole 4 4 ∷ hole 10 10 ∷ []
   pub request-answer : filling twenty 0 (rubbish 33) ≡ lists 2 20
   pub request-in-longer-target : leaving (λ x. putIn (rubbish 35) 0 (fillFrame twenty 0)) (rubbish 35) (filling twenty 0 (rubbish 35)) ≡ framed 0xBB example ++ 9 ∷ 9 ∷ []
+  pub promise-from-5 : Fills twenty 5 (rubbish 30) (filled.Accepted (record { count = 1; end = 20 })) (framed 0xBB (0x11 ∷ 0x07 ∷ 0x00 ∷ 0x00 ∷ 0x00 ∷ 0xF4 ∷ 0x00 ∷ 0x0A ∷ 0x00 ∷ 0x00 ∷ 0x0A ∷ 0x00 ∷ 9 ∷ 9 ∷ []))
+  pub promise-refused : Fills twenty 5 (rubbish 27) (filled.Refused 12) (rubbish 27)
   pub request-refused-leaves : leaving (λ x. putIn (rubbish 32) 0 (fillFrame twenty 0)) (rubbish 32) (filling twenty 0 (rubbish 32)) ≡ rubbish 32
   -- places: at a hole, inside one, at its end, at the last end and beyond, and none is narrowed
   pub from-4 : filling twenty 4 (rubbish 33) ≡ lists 2 20
@@ -134,6 +136,7 @@ pub record Cases : Type 0 where
   -- both bytes of a length, all three of an offset, all four of a number
   pub longest-hole : holeBytes (hole 0 32768) ≡ 0x00 ∷ 0x00 ∷ 0x00 ∷ 0x00 ∷ 0x80 ∷ []
   pub high-offset : holeBytes (hole 65541 258) ≡ 0x05 ∷ 0x00 ∷ 0x01 ∷ 0x02 ∷ 0x01 ∷ []
+  pub number-in-frame : informationOf (fillFrame (record { head = to-uosat5; number = 0x12345678; length = 1; map = 0 ∷ [] }) 0) ≡ 0x11 ∷ 0x78 ∷ 0x56 ∷ 0x34 ∷ 0x12 ∷ 0xF4 ∷ 0x00 ∷ 0x00 ∷ 0x00 ∷ 0x00 ∷ 0x01 ∷ 0x00 ∷ []
   pub number-bytes : requestBefore Holes 0x12345678 ≡ 0x11 ∷ 0x78 ∷ 0x56 ∷ 0x34 ∷ 0x12 ∷ 0xF4 ∷ 0x00 ∷ []
   -- 49 and 50 holes need one and two frames
   pub forty-nine-holes : filling (alternate 98) 0 (rubbish 268) ≡ lists 49 97
@@ -143,16 +146,22 @@ pub record Cases : Type 0 where
   pub fifty-and-no-more : filling (alternate 100) 99 (rubbish 268) ≡ refused 15
   pub one-frame : length (sentFrom 3 (alternate 98) (rubbish 268) 0) ≡ 1
   pub two-frames : length (sentFrom 3 (alternate 100) (rubbish 268) 0) ≡ 2
+  pub two-frames-together : together (sentFrom 3 (alternate 100) (rubbish 268) 0) ≡ apart 50
+  pub two-frames-place : placeAfter 3 (alternate 100) (rubbish 268) 0 ≡ 99
+  pub place-after-one : placeAfter 1 (alternate 100) (rubbish 268) 0 ≡ 97
   pub most-holes-short : filling (alternate 98) 0 (rubbish 267) ≡ refused 12
   -- a run of requests: the frames, the place after them, and how many name each position
   pub run-frames : sentFrom 20 twenty (rubbish 268) 0 ≡ framed 0xBB example ∷ []
   pub run-place : placeAfter 20 twenty (rubbish 268) 0 ≡ 20
+  pub place-of-none : placeAfter 0 twenty (rubbish 268) 5 ≡ 5
+  pub no-request : sentFrom 0 twenty (rubbish 268) 0 ≡ []
   pub run-names : valuesFrom (naming (sentFrom 20 twenty (rubbish 268) 0)) 0 22 ≡ replicate 4 0 ++ replicate 4 1 ++ 0 ∷ 0 ∷ [] ++ replicate 10 1 ++ 0 ∷ 0 ∷ []
   pub run-together : together (framed 0xBB example ∷ framed 0xBB example ∷ []) ≡ hole 4 4 ∷ hole 10 10 ∷ hole 4 4 ∷ hole 10 10 ∷ []
   pub named-twice : naming (framed 0xBB example ∷ framed 0xBB example ∷ []) 4 ≡ 2
   -- a request for the start: 2, 12
   pub start-frame : requestFrame to-uosat5 Start 7 [] ≡ framed 0xBB (0x10 ∷ 0x07 ∷ 0x00 ∷ 0x00 ∷ 0x00 ∷ 0xF4 ∷ 0x00 ∷ [])
   pub start-written : starting to-uosat5 7 (rubbish 25) ≡ accepted (framed 0xBB (0x10 ∷ 0x07 ∷ 0x00 ∷ 0x00 ∷ 0x00 ∷ 0xF4 ∷ 0x00 ∷ 9 ∷ 9 ∷ []))
+  pub start-number : starting to-uosat5 0x12345678 (rubbish 23) ≡ accepted (framed 0xBB (0x10 ∷ 0x78 ∷ 0x56 ∷ 0x34 ∷ 0x12 ∷ 0xF4 ∷ 0x00 ∷ []))
   pub start-exact : starting to-uosat5 7 (rubbish 23) ≡ accepted (framed 0xBB (0x10 ∷ 0x07 ∷ 0x00 ∷ 0x00 ∷ 0x00 ∷ 0xF4 ∷ 0x00 ∷ []))
   pub start-short : starting to-uosat5 7 (rubbish 22) ≡ refused 12
   pub start-without-name : starting no-source 7 (rubbish 23) ≡ refused 2
@@ -168,6 +177,7 @@ pub record Cases : Type 0 where
   pub hole-of-refused-answer : holeRead (refused 4) (framed 0xBB example) 0 ≡ hole 0 0
   pub hole-by-answer : holeRead (says Holes 7 1) (framed 0xBB example) 0 ≡ hole 4 4
   pub hole-beyond-answer : holeRead (says Holes 7 1) (framed 0xBB example) 1 ≡ hole 0 0
+  pub holes-by-answer : holesRead (says Holes 7 1) (framed 0xBB example) ≡ hole 4 4 ∷ []
   pub holes-of-refused : holesOf (framed 0xBD example) ≡ []
   pub reads-start : answer (0x10 ∷ 0x07 ∷ 0x00 ∷ 0x00 ∷ 0x00 ∷ 0xF4 ∷ 0x00 ∷ []) ≡ says Start 7 0
   pub hole-of-start : holeAt (framed 0xBB (0x10 ∷ 0x07 ∷ 0x00 ∷ 0x00 ∷ 0x00 ∷ 0xF4 ∷ 0x00 ∷ [])) 0 ≡ hole 0 0
@@ -212,6 +222,7 @@ pub record Cases : Type 0 where
   pub most-holes : with-holes (apart 49) ≡ says Holes 7 49
   pub odd-behind-most : listing-holes (holesBytes (apart 49) ++ 0 ∷ []) ≡ refused 7
   pub three-odd-behind-most : listing-holes (holesBytes (apart 49) ++ 0 ∷ 0 ∷ 0 ∷ []) ≡ refused 7
+  pub fifty-counted : countRight (0x11 ∷ replicate 256 0) ≡ false
   pub fifty-in-a-frame : with-holes (apart 50) ≡ refused 7
   -- 10: each hole of at least 1 byte, ascending, one position between neighbours, none beyond 32,768
   pub empty-hole : with-holes (hole 4 0 ∷ []) ≡ refused 10
@@ -231,6 +242,7 @@ pub record Cases : Type 0 where
   pub second-empty : with-holes (hole 4 4 ∷ hole 10 0 ∷ []) ≡ refused 10
   pub first-empty : with-holes (hole 4 0 ∷ hole 10 10 ∷ []) ≡ refused 10
   pub third-touches : with-holes (hole 0 1 ∷ hole 4 4 ∷ hole 8 1 ∷ []) ≡ refused 10
+  pub forty-ninth-touches : with-holes (apart 48 ++ hole 95 1 ∷ []) ≡ refused 10
   pub second-ends-beyond : with-holes (hole 4 4 ∷ hole 32767 2 ∷ []) ≡ refused 10
   -- in the order 1, 2, 3, 4, 7, 1, 5, 7, 10 where two hold
   pub one-before-two : readRequest (take 15 (set (framed 0xBB example) 6 0x77)) ≡ refused 1
@@ -263,6 +275,8 @@ cases = record {
   request-holes = refl;
   request-answer = refl;
   request-in-longer-target = refl;
+  promise-from-5 = record { answers = refl; bytes = refl };
+  promise-refused = record { answers = refl; bytes = refl };
   request-refused-leaves = refl;
   from-4 = refl;
   from-5 = refl;
@@ -289,6 +303,7 @@ cases = record {
   fifteen-before-twelve = refl;
   longest-hole = refl;
   high-offset = refl;
+  number-in-frame = refl;
   number-bytes = refl;
   forty-nine-holes = refl;
   forty-nine-and-no-more = refl;
@@ -297,14 +312,20 @@ cases = record {
   fifty-and-no-more = refl;
   one-frame = refl;
   two-frames = refl;
+  two-frames-together = refl;
+  two-frames-place = refl;
+  place-after-one = refl;
   most-holes-short = refl;
   run-frames = refl;
   run-place = refl;
+  place-of-none = refl;
+  no-request = refl;
   run-names = refl;
   run-together = refl;
   named-twice = refl;
   start-frame = refl;
   start-written = refl;
+  start-number = refl;
   start-exact = refl;
   start-short = refl;
   start-without-name = refl;
@@ -319,6 +340,7 @@ cases = record {
   hole-of-refused-answer = refl;
   hole-by-answer = refl;
   hole-beyond-answer = refl;
+  holes-by-answer = refl;
   holes-of-refused = refl;
   reads-start = refl;
   hole-of-start = refl;
@@ -360,6 +382,7 @@ cases = record {
   most-holes = refl;
   odd-behind-most = refl;
   three-odd-behind-most = refl;
+  fifty-counted = refl;
   fifty-in-a-frame = refl;
   empty-hole = refl;
   one-byte-hole = refl;
@@ -378,6 +401,7 @@ cases = record {
   second-empty = refl;
   first-empty = refl;
   third-touches = refl;
+  forty-ninth-touches = refl;
   second-ends-beyond = refl;
   one-before-two = refl;
   two-before-three = refl;

@@ -1,5 +1,5 @@
 -- A request names only bytes that are not held, and in a whole run of requests every byte that is not held is named by exactly one
--- (01, "Fill request"): a converter that turns the map round asks for what it has.
+-- (01, "Fill request"): a station that takes the map the wrong way round, and asks for what it has, is ruled out.
 -- Assumes nothing.
 use mathlib.Core.Path.{_≡_, refl, sym, ap, ap₂, _∙_}
 use mathlib.Core.Bool.{Bool, true, false, cond, _&&_, _||_, true≢false}

@@ -8,7 +8,7 @@ use native.Mathlib.Omega.{arith}
 use lib.Dec.{leb}
 use lib.ListN.{length, take, length-append}
 use borrow.Author.Tests.{ltb-false, le-leb, not-false}
-use Rattle.reason.specs.Answer.{Answer, accepted, refused}
+use Rattle.reason.specs.Answer.{Answer, accepted, refused, leaving}
 use Rattle.reason.specs.Order.{NoneHolds, firstOf}
 use Rattle.reason.proofs.Bools.{and-left, and-right, and-both}
 use Rattle.reason.proofs.OrderLaws.{accepted-only-if, accepted-if}
@@ -29,9 +29,10 @@ use Rattle.reception.proofs.ListedLaws.{listed-more, listed-most}
 use Rattle.request.specs.declared.Asks.{Asks}
 use Rattle.request.specs.declared.Asks.the-variants.{Start, Holes}
 use Rattle.request.specs.declared.Written.{Written}
+use Rattle.request.specs.declared.Filled.the-variants as filled
 use Rattle.request.specs.Request.{mostHoles, frameLength, requestBefore, holesBytes, information, requestFrame, holeRight, holesRight}
 use Rattle.request.specs.Reading.{readRequest, holesOf}
-use Rattle.request.specs.Writing.{Wanted, holesFrom, fillChecks, filling, fillFrame, startChecks, starting}
+use Rattle.request.specs.Writing.{Wanted, holesFrom, fillChecks, filling, fillFrame, Fills, startChecks, starting}
 use Rattle.request.specs.Made.{Makeable}
 use Rattle.request.specs.Run.{sent}
 use Rattle.request.proofs.WritingLaws.{holes-long}
@@ -65,6 +66,13 @@ frame-long head asks number holes =
 -- the first bytes of a target into which a frame was written are the frame
 frame-stands : (target run : List ℕ) (n : ℕ) → length run ≡ n → n ≤ length target → take n (putIn target 0 run) ≡ run
 frame-stands target run n e h = ap (λ (k : ℕ). take k (putIn target 0 run)) (sym e) ∙ put-part target 0 run (omega arith)
+
+-- What `write_fill` leaves where it accepts: the frame stands in the first bytes of the target.
+pub left-is-sent : (w : Wanted) (place : ℕ) (target : List ℕ) (x : Written) (left : List ℕ) → Fills w place target (filled.Accepted x) left
+    → (filling w place target ≡ accepted x) × (take (frameLength (x .count)) left ≡ sent w place target x)
+left-is-sent w place target x left f =
+    let e = sym (f .answers) in
+    (e, ap (take (frameLength (x .count))) (f .bytes ∙ ap (leaving (λ y. putIn target 0 (fillFrame w place)) target) e))
 
 -- ---- a request for holes that was written
 module _ (w : Wanted) (place : ℕ) (target : List ℕ) (x : Written) (written : filling w place target ≡ accepted x) where

@@ -25,7 +25,8 @@ abbrev pub sendOn : Answer Written → (Written → List (List ℕ)) → List (L
 sendOn (accepted x) more = more x
 sendOn (refused n) more = []
 
--- the frames of n requests, the first from a place, each other from the end returned by the one before
+-- the frames of n requests, the first from a place, each other from the end returned by the one before; of the target only its length
+-- matters, since each frame stands in its first bytes, over those of the one before
 abbrev pub sentFrom : ℕ → Wanted → List ℕ → ℕ → List (List ℕ)
 sentFrom zero w target place = []
 sentFrom (suc n) w target place = sendOn (filling w place target) (λ x. sent w place target x ∷ sentFrom n w target (x .end))

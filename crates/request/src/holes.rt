@@ -9,7 +9,8 @@ ghost use lib.ListN.{length};
 ghost use Rattle.request.specs.Request.{mostHoles, holeLength, holeBytes};
 ghost use Rattle.request.specs.Inner.{Gathers};
 
-// How many holes were listed, the end of the last, and the reason at which there were no more.
+// How many holes were listed, the end of the last, and the reason at which there were no more, 0 where 49
+// were listed.
 pub(crate) struct Gathered {
     pub count: u32,
     pub end: u32,

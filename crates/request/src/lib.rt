@@ -2,11 +2,12 @@
 // start, written and read.
 //
 // `write_fill` lists the holes of a reception from a place on, up to 49 of them; asked again from the end
-// that it returns, until it refuses 15, it lists every hole once. `write_start` asks for the start.
-// `read_request` reads both, and `hole_of` and `hole_at` hand out a hole by its index. The contracts cite
-// `specs/Writing.antt` and `specs/Reading.antt`. That requests name only bytes that are not held, and each
-// of these once, is in `proofs/Naming.antt`; that what is written is read back, and what is accepted is
-// what writing gives, in `proofs/RoundTrip.antt`.
+// that it returns, until it refuses 15, it lists every hole once (`proofs/WholeRun.antt`). `write_start` asks
+// for the start. `read_request` reads both, and `hole_of` and `hole_at` hand out a hole by its index. The
+// contracts cite `specs/Writing.antt` and `specs/Reading.antt`. That requests name only bytes that are not
+// held, and each of these once, is in `proofs/Naming.antt`; that what is written is read back, and what is
+// accepted is what writing gives, in `proofs/RoundTrip.antt`, `proofs/SentLaws.antt` and
+// `proofs/WrittenAgain.antt`.
 mod holes;
 mod reading;
 mod writing;
@@ -77,7 +78,8 @@ pub enum Filled {
 }
 
 // Writes a request for the holes of a reception, all that start at the place or later, up to 49, into the
-// first bytes of the target; refuses 2, 7, 12 (map), 15, 12 (target).
+// first bytes of the target, and answers how many they are and the end of the last; refuses 2, 7, 12 (map),
+// 15, 12 (target).
 pub fn write_fill(
     destination: Address,
     source: Address,
