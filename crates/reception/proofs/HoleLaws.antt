@@ -239,14 +239,19 @@ module _ (l : ℕ) (map : List ℕ) where
         go-on-same (listing l map place) (λ hole. listedFrom (suc n) l map (endOf hole)) (λ hole. listedFrom n l map (endOf hole))
         (λ hole e. no-more n (endOf hole) (omega (arith, hole-first place hole e .0, hole-is place hole e .some)))
 
-    -- Asked from 0 and then each time from the end of the last hole, until reason 15: every hole once, ascending.
-    pub all-holes : AllHoles l map (listedFrom l l map 0)
-    all-holes = record {
-      are-holes = all-are-holes l 0;
-      ascend = ascending l 0;
-      every-one = λ hole is. every-hole l 0 (omega arith) hole is (omega arith);
-      then-15 = ends-with-15 l 0 (omega arith);
+    -- Asked from 0 and then each time from the end of the last hole, until reason 15: every hole once, ascending. As many questions as
+    -- there are positions are enough ..
+    pub all-holes-by : (n : ℕ) → l ≤ n → AllHoles l map (listedFrom n l map 0)
+    all-holes-by n enough = record {
+      are-holes = all-are-holes n 0;
+      ascend = ascending n 0;
+      every-one = λ hole is. every-hole n 0 (omega arith) hole is (omega arith);
+      then-15 = ends-with-15 n 0 (omega arith);
     }
+
+    -- .. and with so many:
+    pub all-holes : AllHoles l map (listedFrom l l map 0)
+    all-holes = all-holes-by l (omega arith)
 
     -- Where every position is held, the answer from 0 is reason 15.
     pub none-left-if : ((p : ℕ) → p < l → held map p ≡ true) → listing l map 0 ≡ refused 15

@@ -20,7 +20,7 @@ use Rattle.reception.specs.Holes.{holeStart, holeFrom}
 use Rattle.reception.specs.Listing.{listing}
 use Rattle.reception.specs.EveryHole.{endOf, goOn, listedFrom, lastEnd, Ascending, AllHoles}
 use Rattle.reception.proofs.GivenReasons.{lists-15, lists}
-use Rattle.reception.proofs.HoleLaws.{all-are-holes, ascending, every-hole, ends-with-15}
+use Rattle.reception.proofs.HoleLaws.{ascending, all-holes-by}
 use Rattle.reception.proofs.ListedLaws.{listed-needs, listed-none, listed-more, listed-most}
 use Rattle.request.specs.declared.Written.{Written}
 use Rattle.request.specs.Request.{mostHoles, holeLength, frameLength}
@@ -155,16 +155,8 @@ module _ (w : Wanted) (target : List ℕ) (good : (isWritable (w .head .destinat
       ))
 
   module _ (right : wrongLength (w .length) ≡ false) (long : mapSize (w .length) ≤ length (w .map)) where
-    enough : w .length ≤ w .length * mostHoles + 0
-    enough = omega arith
-
     all-listed : AllHoles (w .length) (w .map) (listedFrom (w .length * mostHoles) (w .length) (w .map) 0)
-    all-listed = record {
-      are-holes = all-are-holes (w .length) (w .map) (w .length * mostHoles) 0;
-      ascend = ascending (w .length) (w .map) (w .length * mostHoles) 0;
-      every-one = λ hole is. every-hole (w .length) (w .map) right long (w .length * mostHoles) 0 enough hole is (omega arith);
-      then-15 = ends-with-15 (w .length) (w .map) right long (w .length * mostHoles) 0 enough;
-    }
+    all-listed = all-holes-by (w .length) (w .map) right long (w .length * mostHoles) (omega arith)
 
     -- Repeated from 0, each time from the end returned, until 15: every hole exactly once, ascending, 1 to 49 in each.
     pub whole-run : Whole w target (sentFrom (w .length) w target 0) (placeAfter (w .length) w target 0)
