@@ -45,6 +45,9 @@ const HOLES_AT: usize = 23;
 
 const HOLE_LENGTH: usize = 5;
 
+// How many bytes the most holes take.
+const ENTRIES: usize = 245;
+
 // What a request asks for: the start of a file, or the holes that it lists.
 pub enum Asks {
     Start,
@@ -95,7 +98,7 @@ pub fn write_fill(
     if !(ax25::writable(destination) & ax25::writable(source)) {
         return Filled::Refused(2);
     }
-    let mut entries = [0; 245];
+    let mut entries = [0; ENTRIES];
     let listed = holes::gather(length, map, place, &mut entries);
     if listed.count == 0 {
         return Filled::Refused(listed.reason);
