@@ -1,5 +1,5 @@
 -- `hole_program::run` is safe and ends: the size that is told is within the lent slice.
--- Assumes nothing.
+-- Assumes what the contracts of C's `read` and `write` say, as every program does that reads and prints.
 use borrow.Author.Needs.{needs}
 use Rattle.hole_program.proofs.run.Statement.{statement}
 use Rattle.hole_program.proofs.run.Tie as tie
