@@ -16,7 +16,8 @@ use Rattle.octets.specs.Numbers.{byteAt}
 use Rattle.ax25.specs.declared.Role.the-variants.{Destination, Source}
 use Rattle.ax25.specs.declared.Head.{Head}
 use Rattle.ax25.specs.Address.{wellFormed}
-use Rattle.ax25.specs.Head.{headLength, mostInformation, longestFrame, control, headChecks, headOf, readHead}
+use Rattle.ax25.specs.Head.{headLength, mostInformation, control, headChecks, headOf, readHead}
+use Rattle.ax25.specs.Says.{HeadSays}
 
 -- each reason in its turn, and acceptance when none holds
 
@@ -54,16 +55,7 @@ module _ (protocol : ℕ) (frame : List ℕ) where
           pub reads-head : length frame - headLength ≤ mostInformation → readHead protocol frame ≡ accepted (headOf frame)
           reads-head h = past-4 ∙ skip _ _ _ (le-ltb _ _ h) ∙ none-left _
 
--- what an accepted head says of the frame
-pub record HeadSays (protocol : ℕ) (frame : List ℕ) (head : Head) : Type 0 where
-  pub long : headLength ≤ length frame
-  pub short : length frame ≤ longestFrame
-  pub destination : wellFormed Destination frame 0 ≡ true
-  pub source : wellFormed Source frame 7 ≡ true
-  pub controlled : byteAt frame 14 ≡ control
-  pub named : byteAt frame 15 ≡ protocol
-  pub is : head ≡ headOf frame
-
+-- what an accepted head says
 pub head-says : (protocol : ℕ) (frame : List ℕ) (head : Head) → readHead protocol frame ≡ accepted head → HeadSays protocol frame head
 unfolding headChecks
 head-says protocol frame head e =

@@ -5,7 +5,7 @@ use Prim.Native.Nat.{ℕ}
 use lib.ListN.{drop}
 use Rattle.ax25.specs.Head.{headLength}
 
--- the two protocols
+-- the protocols: of file pieces and fill requests, and of directory entries
 abbrev pub file : ℕ
 file = 0xBB
 

@@ -2,3 +2,4 @@ pub mod Address
 pub mod Head
 pub mod Information
 pub mod Examples
+pub mod Says

@@ -10,8 +10,7 @@ use Rattle.reason.specs.Answer.{accepted, refused}
 use Rattle.reason.specs.Order.{check, firstOf}
 use Rattle.reason.proofs.OrderLaws.{skip, stop, none-left}
 use Rattle.octets.specs.Numbers.{byteAt, numberAt}
-use Rattle.remainder.specs.Check.{checkRight}
-use Rattle.frame.specs.Information.{checkLength}
+use Rattle.remainder.specs.Check.{checkLength, checkRight}
 use Rattle.frame.specs.Entry.{beforeHeader, flagsAllowed, headerWhole, headerRight, entryChecks}
 
 module _ {A : Type 0} (s : List ℕ) (a : A) where

@@ -26,7 +26,8 @@ use Rattle.ax25.specs.Information.{file, informationOf}
 use Rattle.frame.specs.Piece.{pieceFlags, pieceChecks, pieceFields, pieceOf, readPiece, pieceData, bytesRead, pieceBytes}
 use Rattle.frame.specs.Made.{pieceBefore, pieceInformation, pieceFrame, Makeable}
 use Rattle.frame.proofs.PieceLaws.{reads-piece}
-use Rattle.frame.proofs.Says.{PieceSays, piece-says}
+use Rattle.frame.specs.Says.{PieceSays}
+use Rattle.frame.proofs.Says.{piece-says}
 
 module _ (p : Piece) (bytes : List ℕ) (m : Makeable p bytes) where
   abbrev Info : List ℕ

@@ -1,6 +1,6 @@
 -- What an accepted frame says: its fields are its bytes at their places, counted from 0 in the whole frame (demand 2).
 -- Assumes nothing.
-use mathlib.Core.Path.{_≡_, refl, sym, ap, _∙_}
+use mathlib.Core.Path.{_≡_, sym, ap, _∙_}
 use mathlib.Core.Bool.{true}
 use mathlib.Core.List.{List}
 use mathlib.Core.Logic.{⊎-elim}
@@ -15,18 +15,18 @@ use Rattle.reason.proofs.Bools.{and-left, and-right, le-or-lt}
 use Rattle.reason.proofs.OrderLaws.{accepted-only-if, both-accept}
 use Rattle.octets.specs.Numbers.{byteAt, numberAt}
 use Rattle.octets.proofs.NumberLaws.{number-drop}
-use Rattle.remainder.specs.Check.{checkRight}
-use Rattle.ax25.specs.Head.{headLength, headChecks, headOf, readHead}
-use Rattle.ax25.proofs.HeadLaws.{HeadSays, head-says}
+use Rattle.remainder.specs.Check.{checkLength}
+use Rattle.ax25.specs.Head.{headLength, headChecks, headOf}
+use Rattle.ax25.proofs.HeadLaws.{head-says}
 use Rattle.header.specs.Header.{headerLength, headerOf, keepsRules}
 use Rattle.header.proofs.HeaderLaws.{reads-header, told-length}
-use Rattle.header.proofs.Says.{HeaderSays, header-says}
+use Rattle.header.proofs.Says.{header-says}
 use Rattle.frame.specs.declared.Piece.{Piece}
 use Rattle.frame.specs.declared.Entry.{Entry}
 use Rattle.ax25.specs.Information.{file, directory, informationOf}
-use Rattle.frame.specs.Information.{checkLength}
-use Rattle.frame.specs.Piece.{beforeData, pieceFlags, pieceChecks, pieceFields, pieceOf, readPiece, pieceData, pieceBytes, bytesRead}
+use Rattle.frame.specs.Piece.{beforeData, pieceChecks, pieceFields, pieceOf, readPiece, pieceData, pieceBytes, bytesRead}
 use Rattle.frame.specs.Entry.{flagsAllowed, headerWhole, headerPart, headerRight, entryChecks, entryFields, entryOf, readEntry, headerBytesRead, headerBytes}
+use Rattle.frame.specs.Says.{PieceSays, EntrySays}
 
 -- a byte and a number of the information, at their places in the frame
 byte-in : (frame : List ℕ) (at : ℕ) → byteAt (informationOf frame) at ≡ byteAt frame (headLength + at)
@@ -38,21 +38,7 @@ number-in n frame at = number-drop n headLength frame at
 at-least : (n m : ℕ) → n ≡ m - 16 → 11 ≤ n → (n ≡ 11 → ⊥) → 28 ≤ m
 at-least n m e l d = ⊎-elim (λ (h : 12 ≤ n). omega arith) (λ (h : n < 12). absurd (d (omega arith))) (le-or-lt 12 n)
 
--- An accepted piece. The longest has 244 bytes, since a frame has at most 271.
-pub record PieceSays (frame : List ℕ) (p : Piece) : Type 0 where
-  pub is : p ≡ pieceOf frame
-  pub head-read : readHead file frame ≡ accepted (p .head)
-  pub head : HeadSays file frame (p .head)
-  pub flags : byteAt frame 16 ≡ pieceFlags
-  pub number : p .number ≡ numberAt 4 frame 17
-  pub kind : p .kind ≡ byteAt frame 21
-  pub offset : p .offset ≡ numberAt 3 frame 22
-  pub checked : checkRight (informationOf frame) ≡ true
-  pub bytes : pieceBytes frame ≡ pieceData frame
-  pub size : length (pieceBytes frame) + 27 ≡ length frame
-  pub some : 1 ≤ length (pieceBytes frame)
-  pub most : length (pieceBytes frame) ≤ 244
-
+-- an accepted piece
 pub piece-says : (frame : List ℕ) (p : Piece) → readPiece frame ≡ accepted p → PieceSays frame p
 unfolding readPiece pieceChecks pieceFields
 piece-says frame p e =
@@ -84,22 +70,7 @@ piece-says frame p e =
       most = omega (arith, head .short);
     }
 
--- An accepted directory entry: bit 5 set, no bit but 5 and 6, the offset 0, and a header of the entry's own file that keeps the
--- rules and is all of what stands before the check bytes.
-pub record EntrySays (frame : List ℕ) (e : Entry) : Type 0 where
-  pub head : HeadSays directory frame (e .head)
-  pub flags : e .flags ≡ byteAt frame 16
-  pub allowed : (e .flags % 32 ≡ 0) × (e .flags / 128 ≡ 0)
-  pub whole : (e .flags / 32 % 2 ≡ 1) × (e .offset ≡ 0)
-  pub number : e .number ≡ numberAt 4 frame 17
-  pub offset : e .offset ≡ numberAt 4 frame 21
-  pub old : e .old ≡ numberAt 4 frame 25
-  pub new : e .new ≡ numberAt 4 frame 29
-  pub checked : checkRight (informationOf frame) ≡ true
-  pub bytes : headerBytes frame ≡ headerPart (informationOf frame)
-  pub header : HeaderSays (headerBytes frame) (e .number) (e .header)
-  pub alone : e .header .bytes ≡ length (headerBytes frame)
-
+-- an accepted directory entry
 pub entry-says : (frame : List ℕ) (e : Entry) → readEntry frame ≡ accepted e → EntrySays frame e
 unfolding readEntry entryChecks entryFields
 entry-says frame e r =

@@ -8,7 +8,7 @@ use lib.ListN.{length, take, drop}
 use Rattle.reason.specs.Answer.{Answer, accepted, refused}
 use Rattle.reason.specs.Order.{Check, check, firstOf}
 use Rattle.octets.specs.Numbers.{byteAt, numberAt}
-use Rattle.remainder.specs.Check.{checkRight}
+use Rattle.remainder.specs.Check.{checkLength, checkRight}
 use Rattle.ax25.specs.declared.Head.{Head}
 use Rattle.ax25.specs.Head.{headChecks, headOf}
 use Rattle.header.specs.Header.{headerLength, headerOf, keepsRules}
@@ -16,7 +16,6 @@ use Rattle.frame.specs.declared.Entry.{Entry}
 use Rattle.frame.specs.declared.EntryRead.{EntryRead}
 use Rattle.frame.specs.declared.EntryRead.the-variants.{Accepted, Refused}
 use Rattle.ax25.specs.Information.{directory, informationOf}
-use Rattle.frame.specs.Information.{checkLength}
 
 -- how many bytes stand before the file header: flags, number, offset, time old and time new
 abbrev pub beforeHeader : ℕ

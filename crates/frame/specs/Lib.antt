@@ -1,5 +1,5 @@
-pub mod Information
 pub mod Piece
 pub mod Entry
 pub mod Made
 pub mod Figure
+pub mod Says

@@ -8,14 +8,13 @@ use lib.ListN.{length, take, drop}
 use Rattle.reason.specs.Answer.{Answer, accepted, refused}
 use Rattle.reason.specs.Order.{Check, check, firstOf}
 use Rattle.octets.specs.Numbers.{byteAt, numberAt}
-use Rattle.remainder.specs.Check.{checkRight}
+use Rattle.remainder.specs.Check.{checkLength, checkRight}
 use Rattle.ax25.specs.declared.Head.{Head}
 use Rattle.ax25.specs.Head.{headLength, headChecks, headOf}
 use Rattle.frame.specs.declared.Piece.{Piece}
 use Rattle.frame.specs.declared.PieceRead.{PieceRead}
 use Rattle.frame.specs.declared.PieceRead.the-variants.{Accepted, Refused}
 use Rattle.ax25.specs.Information.{file, informationOf}
-use Rattle.frame.specs.Information.{checkLength}
 
 -- how many bytes stand before the data: flags, number, type and offset
 abbrev pub beforeData : ℕ
@@ -34,7 +33,7 @@ pieceChecks s =
     ∷ check (eqb (length s) (beforeData + checkLength)) 7
     ∷ []
 
--- what the information of a piece says, behind a head
+-- what the information of a piece says, behind a head; kind is 01's type, a reserved word
 unfoldable pub pieceFields : Head → List ℕ → Piece
 pieceFields head s = record { head = head; number = numberAt 4 s 1; kind = byteAt s 5; offset = numberAt 3 s 6 }
 

@@ -19,6 +19,9 @@ ghost use mathlib.Core.Path.{_≡_};
 ghost use Rattle.frame.specs.Piece.{pieceAnswer, readPiece, pieceBytes, bytesRead};
 ghost use Rattle.frame.specs.Entry.{entryAnswer, readEntry, headerBytes, headerBytesRead};
 
+// Where the bytes of a piece start in its frame: behind the head and the nine header bytes.
+pub const DATA_AT: usize = 25;
+
 // How many check bytes stand at the end of the information.
 const CHECK_LENGTH: usize = 2;
 

@@ -1,5 +1,6 @@
 // The information of a file piece.
 use super::CHECK_LENGTH;
+use super::DATA_AT;
 use super::Piece;
 use super::PieceRead;
 use ax25::Head;
@@ -8,12 +9,10 @@ ghost use Rattle.reason.specs.Order.{firstOf};
 ghost use Rattle.frame.specs.Piece.{pieceChecks, pieceFields, pieceAnswer, pieceData};
 
 // The flags of every piece; the information of a piece without data: nine header bytes and the check;
-// where the data start in a frame, and how many bytes a frame without data has.
+// and how many bytes a frame without data has.
 const FLAGS: u8 = 0x02;
 
 const LEAST: usize = 11;
-
-const DATA_AT: usize = 25;
 
 const NO_DATA: usize = 27;
 

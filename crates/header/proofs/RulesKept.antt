@@ -12,8 +12,8 @@ use Rattle.reason.proofs.OrderLaws.{not-both}
 use Rattle.octets.specs.Numbers.{byteAt}
 use Rattle.header.specs.declared.Header.{Header}
 use Rattle.header.specs.Items.{items, countOf, sizeOf}
-use Rattle.header.specs.Header.{beginsRight, endsRight, allOnce, uploadRight, valuesRight, headerLength, mandatory, once, valueOf, headerSum, headerOf, keepsRules, readHeader}
-use Rattle.header.specs.Rules.{Rules}
+use Rattle.header.specs.Header.{beginsRight, endsRight, allOnce, uploadRight, valuesRight, headerLength, mandatory, once, headerSum, headerOf, keepsRules, readHeader}
+use Rattle.header.specs.Rules.{valueOf, Rules}
 use Rattle.header.proofs.TableLaws.{each, all-pass}
 use Rattle.header.proofs.HeaderLaws.{reads-8, reads-header, header-accepted, header-refused}
 

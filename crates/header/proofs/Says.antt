@@ -3,7 +3,6 @@
 use mathlib.Core.Path.{_≡_, refl, sym, ap, subst, _∙_}
 use mathlib.Core.Bool.{Bool, true, false, cond}
 use mathlib.Core.List.{List, [], _∷_, List·Memᴰ}
-use mathlib.Core.Logic.{⊎-elim}
 use Prim.Native.Nat.{ℕ, zero, suc, _+_, _≤_, _<_}
 use native.Mathlib.Nat.{add-zero}
 use native.Mathlib.Omega.{arith}
@@ -14,26 +13,17 @@ use borrow.Author.Tests.{eqb-false}
 use Rattle.reason.specs.Answer.{accepted}
 use Rattle.octets.specs.Numbers.{byteAt, numberAt}
 use Rattle.octets.proofs.NumberLaws.{number-drop, number-take}
-use Rattle.header.specs.declared.Name.{Name}
-use Rattle.header.specs.declared.Extension.{Extension}
-use Rattle.header.specs.declared.Upload.{Upload}
 use Rattle.header.specs.declared.Upload.the-variants.{Time, Absent}
 use Rattle.header.specs.declared.Pair.{Pair}
 use Rattle.header.specs.declared.Header.{Header}
 use Rattle.header.specs.Items.{mandatoryItems, items, countOf, startOf, sizeOf}
-use Rattle.header.specs.Header.{headerLength, mandatory, nameAt, extensionAt, headerOf, readHeader}
+use Rattle.header.specs.Header.{mandatory, nameAt, extensionAt, nameBytes, extensionBytes, headerOf, readHeader}
 use Rattle.header.specs.Rules.{Rules}
 use Rattle.header.specs.Data.{dataOf}
+use Rattle.header.specs.Says.{HeaderSays}
 use Rattle.header.proofs.TableLaws.{in-list, eleven}
 use Rattle.header.proofs.ItemLaws.{item-within, end-within, upload-sized}
 use Rattle.header.proofs.RulesKept.{accepts-only-if}
-
--- the bytes of a name and of an extension, in their order
-abbrev pub nameBytes : Name → List ℕ
-nameBytes n = n .c0 ∷ n .c1 ∷ n .c2 ∷ n .c3 ∷ n .c4 ∷ n .c5 ∷ n .c6 ∷ n .c7 ∷ []
-
-abbrev pub extensionBytes : Extension → List ℕ
-extensionBytes e = e .c0 ∷ e .c1 ∷ e .c2 ∷ []
 
 -- the values of f at n places from k on
 abbrev from : (ℕ → ℕ) → ℕ → ℕ → List ℕ
@@ -67,27 +57,6 @@ in-item n id s h =
     ap (numberAt n s) (sym (add-zero (startOf (items s) id)))
     ∙ sym (number-drop n (startOf (items s) id) s 0)
     ∙ sym (number-take n (sizeOf (items s) id) (drop (startOf (items s) id) s) 0 (omega arith))
-
--- what the values of a header that is accepted say
-pub record HeaderSays (s : List ℕ) (file : ℕ) (h : Header) : Type 0 where
-  pub ruled : Rules s file
-  pub named : h .number ≡ file
-  pub number : h .number ≡ numberAt 4 (dataOf 0x01 s) 0
-  pub size : h .size ≡ numberAt 4 (dataOf 0x04 s) 0
-  pub created : h .created ≡ numberAt 4 (dataOf 0x05 s) 0
-  pub modified : h .modified ≡ numberAt 4 (dataOf 0x06 s) 0
-  pub upset : h .upset ≡ numberAt 1 (dataOf 0x07 s) 0
-  pub kind : h .kind ≡ numberAt 1 (dataOf 0x08 s) 0
-  pub bodysum : h .bodysum ≡ numberAt 2 (dataOf 0x09 s) 0
-  pub headersum : h .headersum ≡ numberAt 2 (dataOf 0x0A s) 0
-  pub body : h .body ≡ numberAt 2 (dataOf 0x0B s) 0
-  pub name : nameBytes (h .name) ≡ dataOf 0x02 s
-  pub extension : extensionBytes (h .extension) ≡ dataOf 0x03 s
-  pub upload : h .upload ≡ cond (eqb (countOf (items s) 0x12) 0) Absent (Time (numberAt 4 (dataOf 0x12 s) 0))
-  pub bytes : h .bytes ≡ headerLength s
-  pub within : h .bytes ≤ length s
-  pub behind : h .bytes ≤ h .body
-  pub before : h .body ≤ h .size
 
 module _ (s : List ℕ) (number : ℕ) (r : Rules s number) where
   -- the length of each item that is told: that of the table, and 4 of item 12

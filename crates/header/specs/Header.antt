@@ -46,10 +46,6 @@ every test (p ∷ rest) = test p && every test rest
 abbrev pub once : (ℕ → ℕ) → (ℕ → ℕ) → Pair → Bool
 once count size p = eqb (count (p .id)) 1 && eqb (size (p .id)) (p .size)
 
--- the value of the item with the id, a number of n bytes
-abbrev pub valueOf : ℕ → ℕ → List ℕ → ℕ
-valueOf id n s = numberAt n s (startOf (items s) id)
-
 -- the sum of bytes
 abbrev pub sumOf : List ℕ → ℕ
 sumOf [] = 0
@@ -59,7 +55,7 @@ sumOf (b ∷ s) = b + sumOf s
 unfoldable pub headerSum : List ℕ → ℕ
 headerSum s = sumOf (putIn (take (headerLength s) s) (startOf (items s) 0x0A) (0 ∷ 0 ∷ [])) % 65536
 
--- item 0A is the sum, item 01 the file's number, and item 0B at least the header's length and at most item 04
+-- item 0A is the sum, item 01 the file's number, and item 0B (body) at least the header's length (bytes) and at most item 04 (size)
 abbrev pub valuesAgree : Header → ℕ → ℕ → Bool
 valuesAgree h sum number = eqb (h .headersum) sum && eqb (h .number) number && leb (h .bytes) (h .body) && leb (h .body) (h .size)
 
@@ -79,7 +75,14 @@ nameAt s at = record {
 abbrev pub extensionAt : List ℕ → ℕ → Extension
 extensionAt s at = record { c0 = byteAt s at; c1 = byteAt s (at + 1); c2 = byteAt s (at + 2) }
 
--- item 12 where it is present: how many items there are, and where the data start
+-- the bytes of a name and of an extension, in their order
+abbrev pub nameBytes : Name → List ℕ
+nameBytes n = n .c0 ∷ n .c1 ∷ n .c2 ∷ n .c3 ∷ n .c4 ∷ n .c5 ∷ n .c6 ∷ n .c7 ∷ []
+
+abbrev pub extensionBytes : Extension → List ℕ
+extensionBytes e = e .c0 ∷ e .c1 ∷ e .c2 ∷ []
+
+-- item 12 where it is present; count is how many items 12 there are, and at is where the last one's data start
 abbrev pub uploadBy : ℕ → ℕ → List ℕ → Upload
 uploadBy count at s = cond (eqb count 0) Absent (Time (numberAt 4 s at))
 

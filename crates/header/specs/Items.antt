@@ -104,7 +104,7 @@ lastOf f d id (item i rest) = lastOf f (cond (eqb (i .id) id) (f i) d) id rest
 lastOf f d id (ended e) = d
 lastOf f d id broken = d
 
--- where the data of the item with the id starts, and how many bytes they are
+-- where the data of the last item with the id start, and how many bytes they are; 0 if there is none
 abbrev pub startOf : Items → ℕ → ℕ
 startOf is id = lastOf (λ (i : Item). i .start) 0 id is
 

@@ -4,3 +4,4 @@ pub mod Data
 pub mod Rules
 pub mod Notes
 pub mod Figure
+pub mod Says

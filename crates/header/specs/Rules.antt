@@ -4,10 +4,14 @@
 use mathlib.Core.Path.{_≡_}
 use mathlib.Core.List.{List, List·Memᴰ}
 use Prim.Native.Nat.{ℕ, _≤_}
-use Rattle.octets.specs.Numbers.{byteAt}
+use Rattle.octets.specs.Numbers.{byteAt, numberAt}
 use Rattle.header.specs.declared.Pair.{Pair}
-use Rattle.header.specs.Items.{items, countOf, sizeOf}
-use Rattle.header.specs.Header.{headerLength, mandatory, valueOf, headerSum}
+use Rattle.header.specs.Items.{items, countOf, startOf, sizeOf}
+use Rattle.header.specs.Header.{headerLength, mandatory, headerSum}
+
+-- the value of the item with the id, a number of n bytes
+abbrev pub valueOf : ℕ → ℕ → List ℕ → ℕ
+valueOf id n s = numberAt n s (startOf (items s) id)
 
 pub record Rules (s : List ℕ) (number : ℕ) : Type 0 where
   -- it begins with AA 55

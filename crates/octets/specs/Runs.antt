@@ -1,4 +1,5 @@
--- A run of bytes written into a list at a place (01, "Frame", "Fill request" and "Record": what is written stands together).
+-- A run of bytes written into a list at a place (01, "Fill request": what is written fills the first bytes of the
+-- target; the bytes after it stay).
 -- Assumes nothing.
 use mathlib.Core.Path.{_≡_}
 use mathlib.Core.Bool.{Bool, cond}

@@ -1,4 +1,5 @@
--- The list that a rule makes: its values at places one after the other.
+-- The list that a rule makes, its values at places one after the other (01: the 256 remainders of "Frame", map and buffer of
+-- "Reception").
 -- Assumes nothing.
 use mathlib.Core.List.{List, [], _∷_}
 use Prim.Native.Nat.{ℕ, zero, suc}

@@ -6,7 +6,7 @@ use mathlib.Core.Logic.{_⊎_, inl, inr, ⊎-elim}
 use mathlib.Core.List.{List, [], _∷_, _++_}
 use Prim.Native.Nat.{ℕ}
 use native.Mathlib.Omega.{arith}
-use Rattle.reason.specs.Answer.{Answer, accepted, refused, andThen}
+use Rattle.reason.specs.Answer.{Answer, accepted, refused}
 use Rattle.reason.specs.Order.{Check, check, firstOf, First, NoneHolds, Exactly}
 
 -- accepted and refused are never the same answer
@@ -57,6 +57,11 @@ answered (check false m ∷ cs) a = ⊎-elim (λ e. inl e) (λ w. inr (w .0, inr
 
 pub first-is-one : (n m : ℕ) (cs : List Check) → First n cs → First m cs → n ≡ m
 first-is-one n m cs f g = let e : _≡_ {A = Answer Unit} (refused n) (refused m) = sym (refused-if n cs tt f) ∙ refused-if m cs tt g in cc
+
+-- the first answer where it refuses, and else the second
+abbrev andThen : {A B : Type 0} → Answer A → Answer B → Answer B
+andThen (accepted a) next = next
+andThen (refused n) next = refused n
 
 -- two lists of checks, one after the other: what the first refuses is refused, and where it accepts the second decides
 pub first-then : {A B : Type 0} (cs ds : List Check) (a : A) (b : B) → firstOf (cs ++ ds) b ≡ andThen (firstOf cs a) (firstOf ds b)

@@ -1,6 +1,7 @@
 -- What an operation answers (01, "Numbered reasons"), and what it leaves in the bytes that it was lent.
 -- Assumes nothing.
 use mathlib.Core.Path.{_≡_}
+use mathlib.Core.Bool.{Bool, true, false}
 use mathlib.Core.List.{List}
 use Prim.Native.Nat.{ℕ}
 use Rattle.reason.specs.declared.Outcome.{Outcome}
@@ -11,20 +12,20 @@ pub data Answer (A : Type 0) : Type 0 where
   accepted : A → Answer A
   refused : ℕ → Answer A
 
+-- it was accepted
+abbrev pub isAccepted : {A : Type 0} → Answer A → Bool
+isAccepted (accepted a) = true
+isAccepted (refused n) = false
+
 -- the same answer with f of its values
 abbrev pub telling : {A B : Type 0} → (A → B) → Answer A → Answer B
 telling f (accepted a) = accepted (f a)
 telling f (refused n) = refused n
 
--- a lent list at exit: what the accepted values make of it; a refusal changes no lent byte
-abbrev pub leaving : {A : Type 0} → (A → List ℕ) → List ℕ → Answer A → List ℕ
+-- what was lent, a list of bytes or a number, at exit: what the accepted values make of it; a refusal changes nothing lent
+abbrev pub leaving : {A L : Type 0} → (A → L) → L → Answer A → L
 leaving f lent (accepted a) = f a
 leaving f lent (refused n) = lent
-
--- the first answer where it refuses, and else the second
-abbrev pub andThen : {A B : Type 0} → Answer A → Answer B → Answer B
-andThen (accepted a) next = next
-andThen (refused n) next = refused n
 
 -- the paper's number and values for each case of an `Outcome`
 abbrev pub outcome : Outcome → Answer Unit

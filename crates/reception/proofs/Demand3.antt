@@ -7,7 +7,7 @@ use Prim.Native.Nat.{ℕ, _*_, _<_}
 use native.Mathlib.Omega.{arith}
 use lib.ListN.{length, take}
 use lib.Seq.{getD-take, length-take-le, ext-getD}
-use Rattle.reason.specs.Answer.{Answer, accepted, refused}
+use Rattle.reason.specs.Answer.{Answer, accepted, refused, isAccepted}
 use Rattle.octets.specs.Numbers.{byteAt, AllBytes}
 use Rattle.positions.specs.Spans.{within, count}
 use Rattle.positions.specs.Map.{held}
@@ -19,7 +19,7 @@ use Rattle.reception.specs.Opening.{opening, opened}
 use Rattle.reception.specs.Taking.{taking, taken}
 use Rattle.reception.specs.Joining.{joining, joined}
 use Rattle.reception.specs.Listing.{listing}
-use Rattle.reception.specs.Sequences.{takenAll, isAccepted, coveredIn, fits, covers, covered, AgreesWith, AllAgree}
+use Rattle.reception.specs.Sequences.{takenAll, coveredIn, fits, covers, covered, AgreesWith, AllAgree}
 use Rattle.reception.specs.Stations.{Station, receptionOf, Made, station, together}
 use Rattle.reception.specs.Contents.{HoldsOf, itself, beyond}
 use Rattle.reception.proofs.GivenReasons.{opens-only-if}
@@ -133,7 +133,7 @@ module _ (number l : ℕ) (file : List ℕ) (ok : wrongLength l ≡ false) where
 
   -- ---- 2. joining two stations is one station after both sequences
 
-  covered-both : (xs ys : List Piece) (p : ℕ) → covered number l (xs ++ ys) p ≡ (covered number l xs p || covered number l ys p)
+  pub covered-both : (xs ys : List Piece) (p : ℕ) → covered number l (xs ++ ys) p ≡ (covered number l xs p || covered number l ys p)
   covered-both [] ys p = refl
   covered-both (x ∷ xs) ys p =
       ap (λ (b : Bool). covers number l x p || b) (covered-both xs ys p) ∙ sym (or-assoc (covers number l x p) (covered number l xs p) (covered number l ys p))

@@ -37,7 +37,7 @@ unfolding added-case
 added-back (added.Accepted n) = refl
 added-back (added.Refused n) = refl
 
-only-one-added : (s : Reception) (o : Offer) (a : Answer ℕ) (r q : Added) (m m′ b b′ : List ℕ) → Adds s o a r m b → Adds s o a q m′ b′
+pub only-one-added : (s : Reception) (o : Offer) (a : Answer ℕ) (r q : Added) (m m′ b b′ : List ℕ) → Adds s o a r m b → Adds s o a q m′ b′
     → (r ≡ q) × (m ≡ m′) × (b ≡ b′)
 only-one-added s o a r q m m′ b b′ d e =
     (only-one-meant addedAnswer added-case added-back r q (d .answers) (e .answers), only-one m m′ (d .leaves-map) (e .leaves-map), only-one b b′ (d .leaves-buffer) (e .leaves-buffer))

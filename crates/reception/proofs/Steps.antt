@@ -10,9 +10,10 @@ use lib.Dec.{eqb, leb}
 use borrow.Author.Tests.{eqb-true, leb-true, leb-false}
 use Rattle.reason.proofs.Bools.{le-or-lt}
 use Rattle.octets.specs.Numbers.{byteAt}
+use Rattle.positions.specs.Spans.{upTo}
 use Rattle.positions.specs.Map.{held}
 use Rattle.positions.proofs.MapLaws.{empty-byte}
-use Rattle.reception.specs.Inner.{emptyAhead, spanAt, upTo, pieceAgrees, MapRun, BufferRun}
+use Rattle.reception.specs.Inner.{emptyAhead, spanAt, pieceAgrees, MapRun, BufferRun}
 use Rattle.reception.proofs.MarkLaws.{run-then}
 use Rattle.reception.proofs.CopyLaws.{copy-then}
 

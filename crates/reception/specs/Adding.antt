@@ -16,7 +16,7 @@ use Rattle.reception.specs.Reception.{Reception, Piece}
 use Rattle.reception.specs.declared.Added.{Added}
 use Rattle.reception.specs.declared.Added.the-variants.{Accepted, Refused}
 
--- of the `size` positions from `start` on, those that `has` tells, each with its byte
+-- an offer: of the `size` positions from `start` on, those that `has` tells, each with its byte
 pub record Offer : Type 0 where
   pub start : ℕ
   pub size : ℕ

@@ -31,5 +31,6 @@ pub record Beyond : Type 0 where
   pub map : List ℕ
   pub buffer : List ℕ
 
+-- .. of a reception
 abbrev pub beyond : Reception → Beyond
 beyond s = record { map = drop (mapSize (s .length)) (s .map); buffer = drop (s .length) (s .buffer) }

@@ -24,7 +24,7 @@ abbrev pub listedFrom : ℕ → ℕ → List ℕ → ℕ → List Hole
 listedFrom zero l map place = []
 listedFrom (suc n) l map place = goOn (listing l map place) (λ hole. listedFrom n l map (endOf hole))
 
--- the place of the question after the last hole of a list, where the first was asked from a place
+-- the end of the last hole of a list, from where the next question is asked; of an empty list, the place of the first question
 abbrev pub lastEnd : ℕ → List Hole → ℕ
 lastEnd place [] = place
 lastEnd place (hole ∷ holes) = lastEnd (endOf hole) holes

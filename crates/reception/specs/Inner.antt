@@ -1,5 +1,5 @@
--- What the private functions promise each other: the questions of the other files, asked of map bytes and of runs of
--- positions. No promise of a public function cites it.
+-- What the private functions promise each other (01, "Reception"): the questions of the other files, asked of map bytes and of
+-- runs of positions. No promise of a public function cites it.
 -- Assumes nothing.
 use mathlib.Core.Path.{_≡_}
 use mathlib.Core.Bool.{Bool, true, false, cond, not, _&&_, _||_}
@@ -12,7 +12,7 @@ use Rattle.octets.specs.Numbers.{byteAt, AllBytes}
 use Rattle.positions.specs.Spans.{within, count}
 use Rattle.positions.specs.Map.{isSet, held}
 
--- held, or where the side is false, not held
+-- p is on a side of the map: the side true is the held positions, false the others
 abbrev pub onSide : List ℕ → Bool → ℕ → Bool
 onSide map side p = cond side (held map p) (not (held map p))
 
@@ -28,15 +28,11 @@ emptyAhead map p = cond (eqb (p % 8) 0 && eqb (byteAt map (p / 8)) 0) 8 1
 abbrev pub spanAt : ℕ → ℕ → ℕ
 spanAt p end = cond (eqb (p % 8) 0 && leb (p + 8) end) 8 1
 
--- where the eight positions from p on that are below n end
-abbrev pub upTo : ℕ → ℕ → ℕ
-upTo p n = cond (leb (p + 8) n) (p + 8) n
-
--- a position is not held, or has the byte of the piece that is put at a position
+-- position p is not held, or has the byte of a piece whose first position is at
 abbrev pub pieceAgrees : List ℕ → List ℕ → ℕ → List ℕ → ℕ → Bool
 pieceAgrees map buffer at piece p = not (held map p) || eqb (byteAt buffer p) (byteAt piece (p - at))
 
--- a position whose bit is set, counted from a position on, has the same byte in both buffers
+-- where bit p - from of a byte is set, position p has the same byte in both buffers
 abbrev pub bytesAgree : ℕ → List ℕ → List ℕ → ℕ → ℕ → Bool
 bytesAgree both buffer bytes from p = not (isSet both (p - from)) || eqb (byteAt buffer p) (byteAt bytes p)
 

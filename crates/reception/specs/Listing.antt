@@ -5,7 +5,6 @@ use Prim.Native.Nat.{ℕ}
 use lib.Dec.{leb}
 use Rattle.reason.specs.Answer.{Answer, accepted, refused}
 use Rattle.reason.specs.Order.{Check, check, firstOf}
-use Rattle.positions.specs.Spans.{first}
 use Rattle.reception.specs.Reception.{wrongLength, shortMap}
 use Rattle.reception.specs.declared.Hole.{Hole}
 use Rattle.reception.specs.declared.Listed.{Listed}

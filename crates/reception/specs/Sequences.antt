@@ -6,7 +6,7 @@ use mathlib.Core.List.{List, [], _∷_}
 use Prim.Native.Nat.{ℕ, _+_, _<_}
 use lib.Dec.{leb, eqb}
 use lib.ListN.{length}
-use Rattle.reason.specs.Answer.{Answer, accepted, refused}
+use Rattle.reason.specs.Answer.{isAccepted}
 use Rattle.octets.specs.Numbers.{byteAt}
 use Rattle.positions.specs.Spans.{within}
 use Rattle.reception.specs.Reception.{Reception, Piece}
@@ -16,11 +16,6 @@ use Rattle.reception.specs.Taking.{taking, taken}
 abbrev pub takenAll : Reception → List Piece → Reception
 takenAll s [] = s
 takenAll s (x ∷ xs) = takenAll (taken s x) xs
-
--- a piece was accepted
-abbrev pub isAccepted : Answer ℕ → Bool
-isAccepted (accepted n) = true
-isAccepted (refused n) = false
 
 -- a piece of the sequence covered the position, and was accepted when it was taken in
 abbrev pub coveredIn : Reception → List Piece → ℕ → Bool

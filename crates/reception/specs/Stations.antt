@@ -10,8 +10,8 @@ use Rattle.reception.specs.Opening.{opening, opened}
 use Rattle.reception.specs.Joining.{joined}
 use Rattle.reception.specs.Sequences.{takenAll, AllAgree}
 
--- A station: the map and the buffer that it was lent, in which the file opens, and the pieces that it takes in, of which every one
--- that fits agrees with the file. Loss, repeats and order are free.
+-- A station: the map and the buffer that it was lent (the map a list of bytes), in which the file opens, and the pieces that it
+-- takes in, of which every one that fits agrees with the file. Loss, repeats and order are free.
 pub record Station (number l : ℕ) (file : List ℕ) : Type 0 where
   pub map : List ℕ
   pub buffer : List ℕ

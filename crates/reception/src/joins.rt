@@ -4,10 +4,10 @@ ghost use mathlib.Core.Path.{_≡_};
 ghost use mathlib.Core.Bool.{_&&_, not};
 ghost use Prim.Native.Nat.{_+_, _-_, _*_, _/_, _%_, _^_, _≤_, _<_};
 ghost use lib.ListN.{length};
-ghost use Rattle.positions.specs.Spans.{every};
+ghost use Rattle.positions.specs.Spans.{every, upTo};
 ghost use Rattle.positions.specs.Map.{held, isSet};
 ghost use Rattle.reception.specs.Reception.{longest};
-ghost use Rattle.reception.specs.Inner.{upTo, bytesAgree, bothAgree, MapRun, BufferRun};
+ghost use Rattle.reception.specs.Inner.{bytesAgree, bothAgree, MapRun, BufferRun};
 
 // Where the positions of a byte that are below n end.
 fn byte_end(from: usize, n: usize) -> usize

@@ -27,7 +27,7 @@ lengthIn s = numberAt 4 s 10
 abbrev pub part : List ℕ → ℕ → ℕ → List ℕ
 part s at n = take n (drop at s)
 
--- the map and the bytes in a record
+-- the data of fields 03 and 04: the map, and the bytes of the buffer
 abbrev pub mapIn : List ℕ → List ℕ
 mapIn s = part s mapAt (mapSize (lengthIn s))
 
@@ -68,7 +68,8 @@ recordedIn s = record { number = numberIn s; length = lengthIn s }
 unfoldable pub readRecord : List ℕ → Answer Recorded
 readRecord s = firstOf (check (not (isRecord s)) 13 ∷ []) (recordedIn s)
 
--- the map of a record that was read: no bytes if it was refused
+-- the map of a record by the answer of reading it: no bytes if it was refused, or if a map of that answer's length does not fit
+-- (then it is another record's answer)
 abbrev pub mapRead : Answer Recorded → List ℕ → List ℕ
 mapRead (accepted r) s = cond (leb (mapAt + mapSize (r .length)) (length s)) (part s mapAt (mapSize (r .length))) []
 mapRead (refused n) s = []

@@ -15,11 +15,11 @@ use Rattle.reception.specs.Held.{heldOf}
 abbrev pub field : ℕ → List ℕ → List ℕ
 field tag bytes = tag ∷ (bytesOf 2 (length bytes) ++ bytes)
 
--- the map of a record: held are the positions of the file that the reception holds; spare bits are zero
+-- field 03, the map: held are the positions of the file that the reception holds; spare bits are zero
 abbrev pub savedMap : ℕ → List ℕ → List ℕ
 savedMap l map = mapOf (heldOf l map) (mapSize l)
 
--- the bytes of a record: a held byte is the reception's; an unheld one is zero
+-- field 04, the buffer: a held byte is the reception's; an unheld one is zero
 abbrev pub savedBytes : ℕ → List ℕ → List ℕ → List ℕ
 savedBytes l map buffer = valuesFrom (λ p. cond (held map p) (byteAt buffer p) 0) 0 l
 
@@ -31,12 +31,13 @@ recordOf s =
     ++ field 3 (savedMap (s .length) (s .map))
     ++ field 4 (savedBytes (s .length) (s .map) (s .buffer))
 
--- where the map stands in a record, where the bytes of a file of l bytes stand, and where they end
+-- where field 03's data stand, and where field 04's do in the record of a file of l bytes
 abbrev pub mapAt : ℕ
 mapAt = 17
 
 abbrev pub bytesAt : ℕ → ℕ
 bytesAt l = mapAt + mapSize l + 3
 
+-- how many bytes a record has: 20 + ceil(L/8) + L
 abbrev pub recordLength : ℕ → ℕ
 recordLength l = bytesAt l + l

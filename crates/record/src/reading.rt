@@ -11,12 +11,12 @@ ghost use mathlib.Core.List.{[]};
 ghost use Prim.Native.Nat.{_+_, _-_, _*_, _/_, _≤_, _<_};
 ghost use lib.Dec.{leb};
 ghost use lib.ListN.{length};
-ghost use Rattle.positions.specs.Spans.{every};
+ghost use Rattle.positions.specs.Spans.{every, upTo};
 ghost use Rattle.positions.specs.Map.{mapSize};
 ghost use Rattle.reception.specs.Reception.{longest};
 ghost use Rattle.record.specs.Record.{mapAt, bytesAt, recordLength};
 ghost use Rattle.record.specs.Reading.{lengthIn, part, mapIn, bytesIn, fieldAt, fieldsRight, spareClear, unheldClear, isRecord, recordedIn};
-ghost use Rattle.record.specs.Inner.{upTo, clearAt};
+ghost use Rattle.record.specs.Inner.{clearAt};
 
 // Where the bytes of a file of a length stand in a record.
 pub(crate) fn bytes_at(l: u32) -> usize

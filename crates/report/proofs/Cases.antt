@@ -11,7 +11,7 @@ use Rattle.positions.specs.Map.{bit, held}
 use Rattle.reception.specs.Listing.{listing}
 use Rattle.record.specs.Reading.{isRecord, readRecord}
 use Rattle.report.specs.declared.Reported.the-variants.{Accepted, Refused}
-use Rattle.report.specs.Decimal.{places, decimal}
+use Rattle.report.specs.Decimal.{digitCount, decimal}
 use Rattle.report.specs.Text.{fileLine, holeLine, holeLines, refusedLine, fileLines, longestText}
 use Rattle.report.specs.Reporting.{linesOf, textOf, reporting, reportedAnswer}
 
@@ -71,7 +71,7 @@ pub record Cases : Type 0 where
   pub little-room : reporting sample (replicate 100 0) ≡ refused 12
 
 pub cases : Cases
-unfolding firstOf every count first bit held listing isRecord readRecord places holeLines reporting
+unfolding firstOf every count first bit held listing isRecord readRecord digitCount holeLines reporting
 cases = record {
   example = refl;
   complete = refl;

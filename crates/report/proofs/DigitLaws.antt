@@ -13,7 +13,7 @@ use lib.ListN.{length, length-append}
 use borrow.Author.Tests.{lt-ltb, le-ltb, ltb-true, ltb-false}
 use Rattle.reason.proofs.Bools.{le-or-lt}
 use Rattle.positions.proofs.SpanLaws.{first-from, first-by, passed-over, found, first-is}
-use Rattle.report.specs.Decimal.{places, digits, decimal}
+use Rattle.report.specs.Decimal.{digitCount, digits, decimal}
 
 -- ---- how many digits
 -- a power of ten is not 0
@@ -49,9 +49,9 @@ few n k h g = ⊎-elim (λ w. absurd (no (pow-le-pow-right (omega arith) w))) (�
     no w = omega arith
 
 -- How many digits a number has is fixed by the powers that it reaches and the one that it does not.
-pub places-is : (n k : ℕ) → n < 2 ^ 32 → 1 ≤ k → ((j : ℕ) → 1 ≤ j → j < k → 10 ^ j ≤ n) → n / 10 ^ k ≡ 0 → k ≡ places n
-unfolding places
-places-is n k h low reached none =
+pub digit-count-is : (n k : ℕ) → n < 2 ^ 32 → 1 ≤ k → ((j : ℕ) → 1 ≤ j → j < k → 10 ^ j ≤ n) → n / 10 ^ k ≡ 0 → k ≡ digitCount n
+unfolding digitCount
+digit-count-is n k h low reached none =
     sym
     (first-is (λ j. ltb n (10 ^ j)) 1 9 k low
     (most k reached)
@@ -65,36 +65,36 @@ places-is n k h low reached none =
 
 module _ (n : ℕ) where
   -- at least one
-  pub places-from : 1 ≤ places n
-  unfolding places
-  places-from = first-from (λ k. ltb n (10 ^ k)) 1 9
+  pub digit-count-from : 1 ≤ digitCount n
+  unfolding digitCount
+  digit-count-from = first-from (λ k. ltb n (10 ^ k)) 1 9
 
   -- at most ten
-  pub places-by : places n ≤ 10
-  unfolding places
-  places-by = first-by (λ k. ltb n (10 ^ k)) 1 9
+  pub digit-count-by : digitCount n ≤ 10
+  unfolding digitCount
+  digit-count-by = first-by (λ k. ltb n (10 ^ k)) 1 9
 
   -- no more than a power says that the number is below
-  pub places-most : (k : ℕ) → 1 ≤ k → n < 10 ^ k → places n ≤ k
-  unfolding places
-  places-most k low h =
+  pub digit-count-most : (k : ℕ) → 1 ≤ k → n < 10 ^ k → digitCount n ≤ k
+  unfolding digitCount
+  digit-count-most k low h =
       ⊎-elim (λ g. g)
       (λ g. absurd (true≢false (sym (lt-ltb n (10 ^ k) h) ∙ passed-over (λ j. ltb n (10 ^ j)) 1 9 k low g)))
-      (le-or-lt (places n) k)
+      (le-or-lt (digitCount n) k)
 
   -- the number reaches every power below that
-  pub places-least : (k : ℕ) → 1 ≤ k → k < places n → 10 ^ k ≤ n
-  unfolding places
-  places-least k low h = ltb-false n (10 ^ k) (passed-over (λ j. ltb n (10 ^ j)) 1 9 k low h)
+  pub digit-count-least : (k : ℕ) → 1 ≤ k → k < digitCount n → 10 ^ k ≤ n
+  unfolding digitCount
+  digit-count-least k low h = ltb-false n (10 ^ k) (passed-over (λ j. ltb n (10 ^ j)) 1 9 k low h)
 
   -- below 10 ^ 10 they are enough
-  pub places-enough : n < 10 ^ 10 → n < 10 ^ places n
-  unfolding places
-  places-enough h =
+  pub digit-count-enough : n < 10 ^ 10 → n < 10 ^ digitCount n
+  unfolding digitCount
+  digit-count-enough h =
       ⊎-elim
-      (λ g. all (places n) (omega (arith, places-by)))
-      (λ g. ltb-true n (10 ^ places n) (found (λ j. ltb n (10 ^ j)) 1 9 g))
-      (le-or-lt 10 (places n))
+      (λ g. all (digitCount n) (omega (arith, digit-count-by)))
+      (λ g. ltb-true n (10 ^ digitCount n) (found (λ j. ltb n (10 ^ j)) 1 9 g))
+      (le-or-lt 10 (digitCount n))
     where
       all : (k : ℕ) → k ≡ 10 → n < 10 ^ k
       all k e = rw e h
@@ -106,8 +106,8 @@ digits-long zero n = refl
 digits-long (suc k) n = length-append (digits k (n / 10)) ((0x30 + n % 10) ∷ []) ∙ ap (λ (j : ℕ). j + 1) (digits-long k (n / 10)) ∙ add-one k
 
 -- .. and a number in decimal has as many as it needs
-pub decimal-long : (n : ℕ) → length (decimal n) ≡ places n
-decimal-long n = digits-long (places n) n
+pub decimal-long : (n : ℕ) → length (decimal n) ≡ digitCount n
+decimal-long n = digits-long (digitCount n) n
 
 -- one digit more in front
 pub digits-first : (k n : ℕ) → digits (suc k) n ≡ (0x30 + n / 10 ^ k % 10) ∷ digits k n

@@ -16,18 +16,18 @@ use Rattle.reception.specs.Holes.{IsHole}
 use Rattle.reception.specs.EveryHole.{endOf, listedFrom, Ascending, Each}
 use Rattle.reception.proofs.OfferLaws.{right-length}
 use Rattle.reception.proofs.HoleLaws.{all-are-holes, ascending}
-use Rattle.report.specs.Decimal.{places, digits, decimal}
+use Rattle.report.specs.Decimal.{digitCount, digits, decimal, numberSaid}
 use Rattle.report.specs.Text.{fileWord, lengthWord, heldWord, refusedWord, space, newline, fileLine, holeLine, holeLines, refusedLine, fileLines, longestText}
-use Rattle.report.proofs.DigitLaws.{power-pos, places-from, places-by, places-most, places-least, places-enough, digits-first, decimal-long}
+use Rattle.report.proofs.DigitLaws.{power-pos, digit-count-from, digit-count-by, digit-count-most, digit-count-least, digit-count-enough, digits-first, decimal-long}
 
 -- ---- every text fits
 -- a number has at most ten digits
 pub ten : (n : ℕ) → length (decimal n) ≤ 10
-ten n = omega (arith, decimal-long n, places-by n)
+ten n = omega (arith, decimal-long n, digit-count-by n)
 
 -- .. and at most five below 100,000
 pub five : (n : ℕ) → n < 100000 → length (decimal n) ≤ 5
-five n h = omega (arith, decimal-long n, places-most n 5 (omega arith) h)
+five n h = omega (arith, decimal-long n, digit-count-most n 5 (omega arith) h)
 
 three-long : (a b c : List ℕ) → length (a ++ b ++ c) ≡ length a + length b + length c
 three-long a b c = simp length-append
@@ -79,16 +79,11 @@ pub refusal-fits : (n : ℕ) → length (refusedLine n) ≤ longestText
 refusal-fits n = let e = length-append (refusedWord ++ decimal n) newline in omega (arith, e, ten n)
 
 -- ---- a number has one text
--- the number that digits say, read on from a number
-abbrev pub valueOf : List ℕ → ℕ → ℕ
-valueOf [] a = a
-valueOf (d ∷ ds) a = valueOf ds (a * 10 + (d - 0x30))
-
-value-append : (ds es : List ℕ) (a : ℕ) → valueOf (ds ++ es) a ≡ valueOf es (valueOf ds a)
+value-append : (ds es : List ℕ) (a : ℕ) → numberSaid (ds ++ es) a ≡ numberSaid es (numberSaid ds a)
 value-append [] es a = refl
 value-append (d ∷ ds) es a = value-append ds es (a * 10 + (d - 0x30))
 
-digits-back : (k n : ℕ) → n < 10 ^ k → valueOf (digits k n) 0 ≡ n
+digits-back : (k n : ℕ) → n < 10 ^ k → numberSaid (digits k n) 0 ≡ n
 digits-back zero n h = omega arith
 digits-back (suc k) n h =
     value-append (digits k (n / 10)) ((0x30 + n % 10) ∷ []) 0
@@ -102,16 +97,16 @@ digits-back (suc k) n h =
     whole n = omega arith
 
 -- The digits of a number read back as the number.
-pub decimal-back : (n : ℕ) → n < 10 ^ 10 → valueOf (decimal n) 0 ≡ n
-decimal-back n h = digits-back (places n) n (places-enough n h)
+pub decimal-back : (n : ℕ) → n < 10 ^ 10 → numberSaid (decimal n) 0 ≡ n
+decimal-back n h = digits-back (digitCount n) n (digit-count-enough n h)
 
 -- So two numbers with the same text are the same.
 pub one-number : (m n : ℕ) → m < 10 ^ 10 → n < 10 ^ 10 → decimal m ≡ decimal n → m ≡ n
-one-number m n g h e = sym (decimal-back m g) ∙ ap (λ (ds : List ℕ). valueOf ds 0) e ∙ decimal-back n h
+one-number m n g h e = sym (decimal-back m g) ∙ ap (λ (ds : List ℕ). numberSaid ds 0) e ∙ decimal-back n h
 
 -- The first digit of a number that is not 0 is not `0`.
 pub no-zero-in-front : (n : ℕ) → 1 ≤ n → n < 10 ^ 10 → 0x30 < getD (decimal n) 0 0
-no-zero-in-front n low high = by (places n) (places-from n) (λ k l g. places-least n k l g) (places-enough n high)
+no-zero-in-front n low high = by (digitCount n) (digit-count-from n) (λ k l g. digit-count-least n k l g) (digit-count-enough n high)
   where
     first : (k : ℕ) → 10 ^ k ≤ n → n < 10 ^ suc k → 0 < n / 10 ^ k % 10
     first k a b =

@@ -4,12 +4,11 @@ ghost use mathlib.Core.List.{_++_};
 ghost use Prim.Native.Nat.{_+_, _≤_};
 ghost use lib.ListN.{length};
 ghost use Rattle.octets.specs.Runs.{putIn};
-ghost use Rattle.report.specs.Decimal.{places as Decimal·places};
-ghost use Rattle.report.specs.Decimal.{digits, decimal};
+ghost use Rattle.report.specs.Decimal.{digitCount, digits, decimal};
 
 // How many digits a number has.
 fn places(n: u32) -> usize
-    ensures { λ r. ⌜ r ≡ Decimal·places n ⌝ }
+    ensures { λ r. ⌜ r ≡ digitCount n ⌝ }
 {
     let mut k = 1;
     let mut rest = n / 10;

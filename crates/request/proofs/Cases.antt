@@ -24,10 +24,9 @@ use Rattle.request.specs.declared.Request.{Request}
 use Rattle.request.specs.declared.RequestRead.the-variants as request
 use Rattle.request.specs.declared.Written.{Written}
 use Rattle.request.specs.declared.Filled.the-variants as filled
-use Rattle.request.specs.Request.{requestBefore, holeBytes, holesBytes, requestFrame, holesRight}
+use Rattle.request.specs.Request.{holesOfKind, requestBefore, holeBytes, holesBytes, requestFrame, holesRight}
 use Rattle.request.specs.Reading.{countRight, holeSpelled, holeIn, requestChecks, requestFields, readRequest, requestAnswer, holeRead, holeAt, holesRead, holesOf}
 use Rattle.request.specs.Writing.{Wanted, holesFrom, filling, fillFrame, filledAnswer, Fills, starting}
-use Rattle.request.specs.Made.{holesOfKind}
 use Rattle.request.specs.Run.{sentFrom, placeAfter, together, naming}
 
 -- from VA3SFL-0 to UOSAT5-11

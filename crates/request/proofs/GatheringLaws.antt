@@ -19,7 +19,7 @@ use Rattle.reception.specs.EveryHole.{endOf, listedFrom, lastEnd}
 use Rattle.reception.proofs.ListedLaws.{listed-none, listed-more, some-listed, listed-most}
 use Rattle.request.specs.declared.Asks.the-variants.{Holes}
 use Rattle.request.specs.declared.Filled.the-variants as filled
-use Rattle.request.specs.Request.{mostHoles, beforeHoles, holeLength, requestBefore, holeBytes, holesBytes}
+use Rattle.request.specs.Request.{mostHoles, beforeHoles, bytesPerHole, requestBefore, holeBytes, holesBytes}
 use Rattle.request.specs.Writing.{Wanted, holesFrom, filling, Fills}
 use Rattle.request.specs.Inner.{Gathers}
 use Rattle.request.proofs.WritingLaws.{holes-long, and-holes, fills-refused, fills-12, fills, fill-refused, fill-accepted}
@@ -31,10 +31,10 @@ pub record SoFar (l : ℕ) (map : List ℕ) (place : ℕ) (entries : List ℕ) (
   pub counted : count + length (listedFrom (mostHoles - count) l map end) ≡ length (listedFrom mostHoles l map place)
   pub ended : lastEnd end (listedFrom (mostHoles - count) l map end) ≡ lastEnd place (listedFrom mostHoles l map place)
   pub none-yet : count ≡ 0 → end ≡ place
-  pub bytes : putIn entries′ (count * holeLength) (holesBytes (listedFrom (mostHoles - count) l map end))
+  pub bytes : putIn entries′ (count * bytesPerHole) (holesBytes (listedFrom (mostHoles - count) l map end))
       ≡ putIn entries 0 (holesBytes (listedFrom mostHoles l map place))
 
-module _ (l : ℕ) (map : List ℕ) (place : ℕ) (entries : List ℕ) (room : mostHoles * holeLength ≤ length entries) where
+module _ (l : ℕ) (map : List ℕ) (place : ℕ) (entries : List ℕ) (room : mostHoles * bytesPerHole ≤ length entries) where
   pub at-first : SoFar l map place entries 0 place entries
   at-first = record { few = omega arith; long = refl; counted = zero-add _; ended = refl; none-yet = λ e. refl; bytes = refl }
 
@@ -44,7 +44,7 @@ module _ (l : ℕ) (map : List ℕ) (place : ℕ) (entries : List ℕ) (room : m
 
     -- one hole more
     pub one-more : (hole : Hole) (run after : List ℕ) (r : Bool) → count < mostHoles → listing l map end ≡ accepted hole → run ≡ holeBytes hole
-        → Put so-far (count * holeLength) run r after → SoFar l map place entries (count + 1) (endOf hole) after
+        → Put so-far (count * bytesPerHole) run r after → SoFar l map place entries (count + 1) (endOf hole) after
     one-more hole run after r h e is put =
         let k = mostHoles - (count + 1) in
         let next = listedFrom k l map (endOf hole) in
@@ -53,20 +53,20 @@ module _ (l : ℕ) (map : List ℕ) (place : ℕ) (entries : List ℕ) (room : m
         let few = listed-most k l map (endOf hole) in
         let size = holes-long next in
         let same = s .long in
-        let written : after ≡ putIn so-far (count * holeLength) (holeBytes hole) =
-        put-fits so-far (count * holeLength) (holeBytes hole) r after (rw is at put) (omega arith) .1 in
-        let at : (count + 1) * holeLength ≡ count * holeLength + length (holeBytes hole) = omega arith in
+        let written : after ≡ putIn so-far (count * bytesPerHole) (holeBytes hole) =
+        put-fits so-far (count * bytesPerHole) (holeBytes hole) r after (rw is at put) (omega arith) .1 in
+        let at : (count + 1) * bytesPerHole ≡ count * bytesPerHole + length (holeBytes hole) = omega arith in
         record {
           few = omega arith;
-          long = ap length written ∙ put-length so-far (count * holeLength) (holeBytes hole) (omega arith) ∙ same;
+          long = ap length written ∙ put-length so-far (count * bytesPerHole) (holeBytes hole) (omega arith) ∙ same;
           counted = let a = ap length rest in omega (arith, a, s .counted);
           ended = sym (ap (lastEnd end) rest) ∙ s .ended;
           none-yet = λ z. absurd (omega arith);
           bytes =
               ap (λ (n : ℕ). putIn after n (holesBytes next)) at
-              ∙ ap (λ (x : List ℕ). putIn x (count * holeLength + length (holeBytes hole)) (holesBytes next)) written
-              ∙ put-put so-far (count * holeLength) (holeBytes hole) (holesBytes next) (omega arith)
-              ∙ sym (ap (λ (holes : List Hole). putIn so-far (count * holeLength) (holesBytes holes)) rest)
+              ∙ ap (λ (x : List ℕ). putIn x (count * bytesPerHole + length (holeBytes hole)) (holesBytes next)) written
+              ∙ put-put so-far (count * bytesPerHole) (holeBytes hole) (holesBytes next) (omega arith)
+              ∙ sym (ap (λ (holes : List Hole). putIn so-far (count * bytesPerHole) (holesBytes holes)) rest)
               ∙ s .bytes;
         }
 
@@ -77,8 +77,8 @@ module _ (l : ℕ) (map : List ℕ) (place : ℕ) (entries : List ℕ) (room : m
       ended = sym (ap (lastEnd end) none) ∙ s .ended;
       none = why;
       bytes =
-          sym (put-nothing so-far (count * holeLength))
-          ∙ sym (ap (λ (holes : List Hole). putIn so-far (count * holeLength) (holesBytes holes)) none)
+          sym (put-nothing so-far (count * bytesPerHole))
+          ∙ sym (ap (λ (holes : List Hole). putIn so-far (count * bytesPerHole) (holesBytes holes)) none)
           ∙ s .bytes;
     }
 
@@ -93,7 +93,7 @@ module _ (l : ℕ) (map : List ℕ) (place : ℕ) (entries : List ℕ) (room : m
 
 -- the bytes of the holes stand within the entries
 pub gathered-fits : (l : ℕ) (map : List ℕ) (place : ℕ) (entries : List ℕ) (count end reason : ℕ) (entries′ : List ℕ)
-    → mostHoles * holeLength ≤ length entries → Gathers l map place entries count end reason entries′ → count * holeLength ≤ length entries′
+    → mostHoles * bytesPerHole ≤ length entries → Gathers l map place entries count end reason entries′ → count * bytesPerHole ≤ length entries′
 gathered-fits l map place entries count end reason entries′ room g =
     let holes = listedFrom mostHoles l map place in
     let few = listed-most mostHoles l map place in
@@ -112,21 +112,21 @@ module _ (w : Wanted) (place : ℕ) (target : List ℕ) (good : (isWritable (w .
     listed : (hole : Hole) × (listing (w .length) (w .map) place ≡ accepted hole)
     listed = some-listed (w .length) (w .map) place mostHoles (omega (arith, g .counted, some))
 
-    pub gathered-short : length target < headLength + beforeHoles + count * holeLength → Fills w place target (filled.Refused 12) target
+    pub gathered-short : length target < headLength + beforeHoles + count * bytesPerHole → Fills w place target (filled.Refused 12) target
     gathered-short h = fill-refused w place target 12 (fills-12 w place target good (listed .0) (listed .1) (omega (arith, g .counted)))
 
-    module _ (room : headLength + beforeHoles + count * holeLength ≤ length target) where
+    module _ (room : headLength + beforeHoles + count * bytesPerHole ≤ length target) where
       told : filling w place target ≡ accepted (record { count = count; end = end })
       told =
           fills w place target good (listed .0) (listed .1) (omega (arith, g .counted))
           ∙ sym (ap₂ (λ (x y : ℕ). accepted (record { count = x; end = y })) (g .counted) (g .ended))
 
-      pub gathered-written : mostHoles * holeLength ≤ length entries → (part before after : List ℕ) (q : Bool)
-          → part ≡ take (count * holeLength) entries′
+      pub gathered-written : mostHoles * bytesPerHole ≤ length entries → (part before after : List ℕ) (q : Bool)
+          → part ≡ take (count * bytesPerHole) entries′
           → before ≡ putIn target 0 (headBytes (w .head .destination) (w .head .source) file ++ requestBefore Holes (w .number))
           → Put before (headLength + beforeHoles) part q after → Fills w place target (filled.Accepted (record { count = count; end = end })) after
       gathered-written space part before after q is e put =
           fill-accepted w place target (record { count = count; end = end }) after told
           (and-holes target (w .head .destination) (w .head .source) Holes (w .number) (holesFrom w place) entries part before after q
           (omega (arith, g .counted)) (omega (arith, listed-most mostHoles (w .length) (w .map) place))
-          (is ∙ ap₂ (λ (n : ℕ) (x : List ℕ). take (n * holeLength) x) (g .counted) (g .bytes)) e put)
+          (is ∙ ap₂ (λ (n : ℕ) (x : List ℕ). take (n * bytesPerHole) x) (g .counted) (g .bytes)) e put)

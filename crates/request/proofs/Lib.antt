@@ -9,3 +9,4 @@ pub mod SentLaws
 pub mod WholeRun
 pub mod Naming
 pub mod WrittenAgain
+pub mod Says

@@ -1,7 +1,7 @@
 -- Laws of a request's information: its holes one after the other, which reason is given, and acceptance when none holds.
 -- Assumes nothing.
 use mathlib.Core.Path.{_≡_, sym, ap, ap₂, _∙_}
-use mathlib.Core.Bool.{Bool, true, false, cond, not, _&&_}
+use mathlib.Core.Bool.{Bool, true, false, not, _&&_}
 use mathlib.Core.List.{List, [], _∷_}
 use Prim.Native.Nat.{ℕ, suc, _+_, _-_, _*_, _≤_, _<_}
 use native.Mathlib.Numerals.{add-one}
@@ -20,8 +20,10 @@ use Rattle.ax25.specs.Head.{headLength}
 use Rattle.ax25.specs.Information.{informationOf}
 use Rattle.reception.specs.declared.Hole.{Hole}
 use Rattle.reception.specs.EveryHole.{endOf}
-use Rattle.request.specs.Request.{blockSize, mostHoles, beforeHoles, holeLength, holeRight, holesRight}
-use Rattle.request.specs.Reading.{asksStart, flagsAllowed, countIn, oddBytes, countRight, holeSpelled, holeIn, holesIn, requestChecks}
+use Rattle.request.specs.declared.Asks.{Asks}
+use Rattle.request.specs.declared.Asks.the-variants.{Start, Holes}
+use Rattle.request.specs.Request.{blockSize, mostHoles, holesOfKind, beforeHoles, bytesPerHole, holeRight, holesRight}
+use Rattle.request.specs.Reading.{flagsAllowed, asksBy, countIn, oddBytes, countRight, holeSpelled, holeIn, holesIn, requestChecks}
 
 -- ---- the holes from an index on
 module _ (s : List ℕ) (count : ℕ) where
@@ -65,19 +67,21 @@ spelled-behind m s at =
     ap₂ (λ (x y : ℕ). record { start = x; length = y }) (number-drop 3 m s at) (number-drop 2 m s (at + 3) ∙ ap (numberAt 2 s) (omega arith))
 
 -- a hole by its index, at its place in the frame
-pub in-frame : (frame : List ℕ) (index : ℕ) → holeSpelled frame (headLength + beforeHoles + index * holeLength) ≡ holeIn (informationOf frame) index
+pub in-frame : (frame : List ℕ) (index : ℕ) → holeSpelled frame (headLength + beforeHoles + index * bytesPerHole) ≡ holeIn (informationOf frame) index
 in-frame frame index =
-    let e : headLength + beforeHoles + index * holeLength ≡ headLength + (beforeHoles + index * holeLength) = omega arith in
-    ap (holeSpelled frame) e ∙ sym (spelled-behind headLength frame (beforeHoles + index * holeLength))
+    let e : headLength + beforeHoles + index * bytesPerHole ≡ headLength + (beforeHoles + index * bytesPerHole) = omega arith in
+    ap (holeSpelled frame) e ∙ sym (spelled-behind headLength frame (beforeHoles + index * bytesPerHole))
+
+-- whatever is asked for, there are at most 49 holes
+pub most-of-kind : (asks : Asks) (n : ℕ) → holesOfKind asks n ≡ true → n ≤ mostHoles
+most-of-kind Start n e = let z = eqb-true n 0 e in omega arith
+most-of-kind Holes n e = leb-true n mostHoles (and-right (leb 1 n) (leb n mostHoles) e)
 
 -- a right count is at most 49
 pub count-most : (s : List ℕ) → countRight s ≡ true → countIn s ≤ mostHoles
-count-most s = by (asksStart (byteAt s 0))
-  where
-    by : (start : Bool) → cond start (eqb (length s) beforeHoles) (eqb (oddBytes s) 0 && leb 1 (countIn s) && leb (countIn s) mostHoles) ≡ true
-        → countIn s ≤ mostHoles
-    by true e = let size = eqb-true (length s) beforeHoles e in omega arith
-    by false e = leb-true (countIn s) mostHoles (and-right (eqb (oddBytes s) 0 && leb 1 (countIn s)) (leb (countIn s) mostHoles) e)
+count-most s e =
+    let asks = asksBy (byteAt s 0) in
+    most-of-kind asks (countIn s) (and-right (eqb (oddBytes s) 0) (holesOfKind asks (countIn s)) e)
 
 -- ---- which answer
 module _ {A : Type 0} (s : List ℕ) (a : A) where

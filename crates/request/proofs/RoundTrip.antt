@@ -1,19 +1,19 @@
 -- A request that is made is read as that request, with its holes, and every accepted frame is one that is made so (demand 2).
 -- Assumes nothing.
 use mathlib.Core.Path.{_≡_, refl, sym, ap, ap₂, _∙_}
-use mathlib.Core.Bool.{Bool, true, false, cond, not, _&&_, _||_}
+use mathlib.Core.Bool.{Bool, true, cond, _&&_}
 use mathlib.Core.Logic.{_⊎_, inl, inr}
 use mathlib.Core.List.{List, [], _∷_, _++_, append-assoc}
-use Prim.Native.Nat.{ℕ, zero, suc, _+_, _-_, _*_, _/_, _^_, _≤_, _<_}
+use Prim.Native.Nat.{ℕ, zero, suc, _+_, _*_, _^_, _≤_, _<_}
 use native.Mathlib.Omega.{arith}
 use lib.Dec.{leb, ltb, eqb}
-use lib.ListN.{length, getD, take, drop, length-append, length-drop, take-append-drop, drop-of-length-le, List·getD-eq-default}
+use lib.ListN.{length, getD, take, drop, length-append, take-append-drop, drop-of-length-le, List·getD-eq-default}
 use lib.Seq.{drop-cons, drop-drop, getD-drop}
-use borrow.Author.Tests.{lt-ltb, le-ltb, ltb-false, leb-true, le-leb, eqb-true, eq-eqb, not-true, not-false}
-use Rattle.reason.specs.Answer.{Answer, accepted, refused}
+use borrow.Author.Tests.{lt-ltb, le-ltb, leb-true, eqb-true}
+use Rattle.reason.specs.Answer.{Answer, accepted}
 use Rattle.reason.specs.Order.{firstOf}
 use Rattle.reason.proofs.Bools.{and-left, and-right, and-both, le-or-lt}
-use Rattle.reason.proofs.OrderLaws.{both-accept, accepted-only-if, accepted-then}
+use Rattle.reason.proofs.OrderLaws.{accepted-then}
 use Rattle.octets.specs.Numbers.{byteAt, numberAt, bytesOf, AllBytes}
 use Rattle.octets.specs.Values.{valuesFrom}
 use Rattle.octets.proofs.NumberLaws.{number-behind, number-of-bytes, number-below, bytes-back}
@@ -30,11 +30,12 @@ use Rattle.reception.specs.EveryHole.{Each, endOf}
 use Rattle.request.specs.declared.Asks.{Asks}
 use Rattle.request.specs.declared.Asks.the-variants.{Start, Holes}
 use Rattle.request.specs.declared.Request.{Request}
-use Rattle.request.specs.Request.{flagsOf, blockSize, mostHoles, beforeHoles, holeLength, requestBefore, holeBytes, holesBytes, information, requestFrame, holeRight, holesRight}
-use Rattle.request.specs.Reading.{asksStart, flagsAllowed, asksBy, countIn, oddBytes, countRight, holeSpelled, holeIn, holesIn, requestChecks, requestFields, requestOf, readRequest, noHole, holeRead, holeAt, holesRead, holesOf}
-use Rattle.request.specs.Made.{holesOfKind, Makeable}
-use Rattle.request.proofs.ReadingLaws.{reads-request, count-most}
+use Rattle.request.specs.Request.{flagsOf, blockSize, holesOfKind, beforeHoles, bytesPerHole, requestBefore, holeBytes, holesBytes, information, requestFrame, holeRight, holesRight}
+use Rattle.request.specs.Reading.{flagsAllowed, asksBy, countIn, oddBytes, countRight, holeSpelled, holeIn, holesIn, requestChecks, requestFields, requestOf, readRequest, noHole, holeRead, holeAt, holesRead, holesOf}
+use Rattle.request.specs.Made.{Makeable}
+use Rattle.request.proofs.ReadingLaws.{most-of-kind, reads-request}
 use Rattle.request.proofs.WritingLaws.{holes-long}
+use Rattle.request.proofs.Says.{asked-flags, count-exact, layers, said, long, flagged, sized, right, counted, holes-are-in}
 
 -- ---- holes as bytes
 -- offset and length fit their bytes
@@ -54,33 +55,33 @@ unfolding holeSpelled
 spelled-is s at hole d e = ap₂ (λ (x y : ℕ). record { start = x; length = y }) d e
 
 -- holes that are spelled behind a list are read there
-spelled-are-read : (a : List ℕ) (holes : List Hole) (i : ℕ) → length a ≡ beforeHoles + i * holeLength → Each Fits holes
+spelled-are-read : (a : List ℕ) (holes : List Hole) (i : ℕ) → length a ≡ beforeHoles + i * bytesPerHole → Each Fits holes
     → valuesFrom (holeIn (a ++ holesBytes holes)) i (length holes) ≡ holes
 spelled-are-read a [] i size fit = refl
 spelled-are-read a (hole ∷ holes) i size fit =
     let rest = holesBytes holes in
     let t = holeBytes hole ++ rest in
-    let at : beforeHoles + i * holeLength ≡ length a + 0 = omega arith in
-    let then : beforeHoles + i * holeLength + 3 ≡ length a + 3 = omega arith in
-    let start : numberAt 3 (a ++ t) (beforeHoles + i * holeLength) ≡ hole .start =
+    let at : beforeHoles + i * bytesPerHole ≡ length a + 0 = omega arith in
+    let then : beforeHoles + i * bytesPerHole + 3 ≡ length a + 3 = omega arith in
+    let start : numberAt 3 (a ++ t) (beforeHoles + i * bytesPerHole) ≡ hole .start =
     ap (numberAt 3 (a ++ t)) at ∙ number-behind 3 a t 0 ∙ number-of-bytes 3 (hole .start) (fit .0 .0) in
-    let size-of : numberAt 2 (a ++ t) (beforeHoles + i * holeLength + 3) ≡ hole .length =
+    let size-of : numberAt 2 (a ++ t) (beforeHoles + i * bytesPerHole + 3) ≡ hole .length =
     ap (numberAt 2 (a ++ t)) then ∙ number-behind 2 a t 3 ∙ number-of-bytes 2 (hole .length) (fit .0 .1) in
     ap₂ (λ (x : Hole) (xs : List Hole). x ∷ xs)
-    (spelled-is (a ++ t) (beforeHoles + i * holeLength) hole start size-of)
+    (spelled-is (a ++ t) (beforeHoles + i * bytesPerHole) hole start size-of)
     (ap (λ (l : List ℕ). valuesFrom (holeIn l) (suc i) (length holes)) (sym (append-assoc a (holeBytes hole) rest))
     ∙ spelled-are-read (a ++ holeBytes hole) holes (suc i) (omega (arith, length-append a (holeBytes hole))) (fit .1))
 
 -- the holes of a list, from one on, are spelled by its bytes
-read-are-spelled : (s : List ℕ) (i n : ℕ) → AllBytes s → length s ≡ beforeHoles + (i + n) * holeLength
-    → holesBytes (valuesFrom (holeIn s) i n) ≡ drop (beforeHoles + i * holeLength) s
+read-are-spelled : (s : List ℕ) (i n : ℕ) → AllBytes s → length s ≡ beforeHoles + (i + n) * bytesPerHole
+    → holesBytes (valuesFrom (holeIn s) i n) ≡ drop (beforeHoles + i * bytesPerHole) s
 unfolding holeSpelled
-read-are-spelled s i zero a size = let past : length s ≤ beforeHoles + i * holeLength = omega arith in sym (drop-of-length-le s past)
+read-are-spelled s i zero a size = let past : length s ≤ beforeHoles + i * bytesPerHole = omega arith in sym (drop-of-length-le s past)
 read-are-spelled s i (suc n) a size =
-    let at = beforeHoles + i * holeLength in
+    let at = beforeHoles + i * bytesPerHole in
     let start : bytesOf 3 (numberAt 3 s at) ≡ take 3 (drop at s) = bytes-back 3 s at a (omega arith) in
     let long : bytesOf 2 (numberAt 2 s (at + 3)) ≡ take 2 (drop (at + 3) s) = bytes-back 2 s (at + 3) a (omega arith) in
-    let next : beforeHoles + suc i * holeLength ≡ at + 3 + 2 = omega arith in
+    let next : beforeHoles + suc i * bytesPerHole ≡ at + 3 + 2 = omega arith in
     let two : take 2 (drop (at + 3) s) ++ drop (at + 3 + 2) s ≡ drop (at + 3) s =
     ap (λ (l : List ℕ). take 2 (drop (at + 3) s) ++ l) (sym (drop-drop 2 (at + 3) s)) ∙ take-append-drop 2 (drop (at + 3) s) in
     let three : take 3 (drop at s) ++ drop (at + 3) s ≡ drop at s =
@@ -110,24 +111,17 @@ flags-ask : (asks : Asks) → asksBy (flagsOf asks) ≡ asks
 flags-ask Start = refl
 flags-ask Holes = refl
 
--- allowed flags are those of what they ask for
-asked-flags : (flags : ℕ) → flagsAllowed flags ≡ true → flagsOf (asksBy flags) ≡ flags
-asked-flags flags e = by (asksStart flags) refl
-  where
-    by : (b : Bool) → asksStart flags ≡ b → flagsOf (cond b Start Holes) ≡ flags
-    by true d = sym (eqb-true flags 0x10 d)
-    by false d = sym (eqb-true flags 0x11 (sym (ap (λ (b : Bool). b || eqb flags 0x11) d) ∙ e))
-
 -- ---- a request that is made
-count-by : (s : List ℕ) (asks : Asks) (n : ℕ) → byteAt s 0 ≡ flagsOf asks → length s ≡ beforeHoles + n * holeLength → holesOfKind asks n ≡ true
+count-by : (s : List ℕ) (asks : Asks) (n : ℕ) → byteAt s 0 ≡ flagsOf asks → length s ≡ beforeHoles + n * bytesPerHole → holesOfKind asks n ≡ true
     → (countIn s ≡ n) × (countRight s ≡ true)
-count-by s Start n f size e =
-    let none : length s ≡ beforeHoles = omega (arith, eqb-true n 0 e) in
-    (omega (arith, eqb-true n 0 e), rw f (eq-eqb (length s) beforeHoles none))
-count-by s Holes n f size e =
+count-by s asks n f size e =
     let count : countIn s ≡ n = omega arith in
     let odd : oddBytes s ≡ 0 = omega arith in
-    (count, rw (f, odd, count) e)
+    (count, rw (f, asks-back asks, odd, count) e)
+  where
+    asks-back : (a : Asks) → asksBy (flagsOf a) ≡ a
+    asks-back Start = refl
+    asks-back Holes = refl
 
 module _ (head : Head) (asks : Asks) (number : ℕ) (holes : List Hole) (m : Makeable head asks number holes) where
   abbrev Info : List ℕ
@@ -136,12 +130,8 @@ module _ (head : Head) (asks : Asks) (number : ℕ) (holes : List Hole) (m : Mak
   abbrev Frame : List ℕ
   Frame = requestFrame head asks number holes
 
-  info-long : length Info ≡ beforeHoles + length holes * holeLength
+  info-long : length Info ≡ beforeHoles + length holes * bytesPerHole
   info-long = omega (arith, length-append (requestBefore asks number) (holesBytes holes), holes-long holes)
-
-  few : (a : Asks) (n : ℕ) → holesOfKind a n ≡ true → n ≤ mostHoles
-  few Start n e = let z = eqb-true n 0 e in omega arith
-  few Holes n e = leb-true n mostHoles (and-right (leb 1 n) (leb n mostHoles) e)
 
   counts : (countIn Info ≡ length holes) × (countRight Info ≡ true)
   counts = count-by Info asks (length holes) refl info-long (m .as-many)
@@ -159,7 +149,7 @@ module _ (head : Head) (asks : Asks) (number : ℕ) (holes : List Hole) (m : Mak
   unfolding requestFrame
   head-is-read =
       head-before-information (head .destination) (head .source) file Info (m .destination) (m .source)
-      (omega (arith, info-long, few asks (length holes) (m .as-many)))
+      (omega (arith, info-long, most-of-kind asks (length holes) (m .as-many)))
 
   -- what the information says behind any head
   abbrev Said : ℕ → Request
@@ -212,82 +202,38 @@ seven s a l f size =
     (append-assoc (take 4 (drop 1 s)) (take 2 (drop 5 s)) (drop 7 s) ∙ ap (λ (r : List ℕ). take 4 (drop 1 s) ++ r) five ∙ one)
     ∙ sym (drop-cons s 0 0 (omega arith))
 
--- a right count: nothing is left over, and there are as many as there may be
-count-exact : (s : List ℕ) → beforeHoles ≤ length s → countRight s ≡ true
-    → (length s ≡ beforeHoles + (0 + countIn s) * holeLength) × (holesOfKind (asksBy (byteAt s 0)) (countIn s) ≡ true)
-count-exact s l = by (asksStart (byteAt s 0))
-  where
-    by : (start : Bool) → cond start (eqb (length s) beforeHoles) (eqb (oddBytes s) 0 && leb 1 (countIn s) && leb (countIn s) mostHoles) ≡ true
-        → (length s ≡ beforeHoles + (0 + countIn s) * holeLength) × (holesOfKind (cond start Start Holes) (countIn s) ≡ true)
-    by true e = let size = eqb-true (length s) beforeHoles e in let z : countIn s ≡ 0 = omega arith in (omega arith, eq-eqb (countIn s) 0 z)
-    by false e =
-        let most = and-right (eqb (oddBytes s) 0 && leb 1 (countIn s)) (leb (countIn s) mostHoles) e in
-        let two = and-left (eqb (oddBytes s) 0 && leb 1 (countIn s)) (leb (countIn s) mostHoles) e in
-        let odd = eqb-true (oddBytes s) 0 (and-left (eqb (oddBytes s) 0) (leb 1 (countIn s)) two) in
-        (omega arith, and-both (leb 1 (countIn s)) (leb (countIn s) mostHoles) (and-right (eqb (oddBytes s) 0) (leb 1 (countIn s)) two) most)
-
 module _ (frame : List ℕ) (bytes : AllBytes frame) (r : Request) (read : readRequest frame ≡ accepted r) where
   abbrev S : List ℕ
   S = informationOf frame
 
-  layers : (readHead file frame ≡ accepted (headOf frame)) × (firstOf (requestChecks S) (requestOf frame) ≡ accepted r)
-  unfolding readRequest
-  layers = both-accept (headChecks file frame) (requestChecks S) (headOf frame) (requestOf frame) r read
-
-  said : r ≡ requestOf frame
-  said = accepted-only-if (requestChecks S) (requestOf frame) r (layers .1) .1
-
-  long : beforeHoles ≤ length S
-  unfolding requestChecks
-  long = ltb-false (length S) beforeHoles (accepted-only-if (requestChecks S) (requestOf frame) r (layers .1) .0 .0)
-
-  flagged : flagsAllowed (byteAt S 0) ≡ true
-  unfolding requestChecks
-  flagged = not-false _ (accepted-only-if (requestChecks S) (requestOf frame) r (layers .1) .0 .1 .0)
-
-  sized : (eqb (numberAt 2 S 5) blockSize && countRight S) ≡ true
-  unfolding requestChecks
-  sized = not-false _ (accepted-only-if (requestChecks S) (requestOf frame) r (layers .1) .0 .1 .1 .0)
-
-  right : holesRight 0 (holesIn S) ≡ true
-  unfolding requestChecks
-  right = not-false _ (accepted-only-if (requestChecks S) (requestOf frame) r (layers .1) .0 .1 .1 .1 .0)
-
-  counted : countRight S ≡ true
-  counted = and-right (eqb (numberAt 2 S 5) blockSize) (countRight S) sized
-
   byte-of : AllBytes S
   byte-of i = rw (getD-drop headLength frame i 0) (bytes (headLength + i))
-
-  holes-are-in : holesOf frame ≡ holesIn S
-  unfolding requestFields
-  holes-are-in = ap (λ (x : Answer Request). holesRead x frame) (read ∙ ap accepted said)
 
   information-is : information (asksBy (byteAt S 0)) (numberAt 4 S 1) (holesIn S) ≡ S
   information-is =
       ap (λ (l : List ℕ). requestBefore (asksBy (byteAt S 0)) (numberAt 4 S 1) ++ l)
-      (read-are-spelled S 0 (countIn S) byte-of (count-exact S long counted .0))
-      ∙ seven S byte-of long flagged (eqb-true (numberAt 2 S 5) blockSize (and-left (eqb (numberAt 2 S 5) blockSize) (countRight S) sized))
+      (read-are-spelled S 0 (countIn S) byte-of (count-exact S (long frame r read) (counted frame r read) .0))
+      ∙ seven S byte-of (long frame r read) (flagged frame r read) (eqb-true (numberAt 2 S 5) blockSize (and-left (eqb (numberAt 2 S 5) blockSize) (countRight S) (sized frame r read)))
 
   -- An accepted frame is the frame of its fields and of its holes ..
   pub accepted-request-is-made : requestFrame (r .head) (r .asks) (r .number) (holesOf frame) ≡ frame
   unfolding requestFrame requestFields
   accepted-request-is-made =
-      ap₂ (λ (x : Request) (holes : List Hole). headBytes (x .head .destination) (x .head .source) file ++ information (x .asks) (x .number) holes) said holes-are-in
-      ∙ ap₂ (λ (x y : List ℕ). x ++ y) (sym (read-head-is-written file frame (headOf frame) (layers .0) .0)) information-is
+      ap₂ (λ (x : Request) (holes : List Hole). headBytes (x .head .destination) (x .head .source) file ++ information (x .asks) (x .number) holes) (said frame r read) (holes-are-in frame r read)
+      ∙ ap₂ (λ (x y : List ℕ). x ++ y) (sym (read-head-is-written file frame (headOf frame) (layers frame r read .0) .0)) information-is
       ∙ take-append-drop headLength frame
 
   -- .. and these are a request that can be made.
   pub accepted-request-can-be-made : Makeable (r .head) (r .asks) (r .number) (holesOf frame)
   unfolding requestFields headOf
   accepted-request-can-be-made =
-      let h = head-says file frame (headOf frame) (layers .0) in
-      rw (said, holes-are-in) (record {
+      let h = head-says file frame (headOf frame) (layers frame r read .0) in
+      rw ((said frame r read), (holes-are-in frame r read)) (record {
         destination = formed-is-writable Destination frame 0 (h .destination);
         source = formed-is-writable Source frame 7 (h .source);
         number-fits = number-below 4 S 1 byte-of;
-        as-many = ap (holesOfKind (asksBy (byteAt S 0))) (values-long (holeIn S) 0 (countIn S)) ∙ count-exact S long counted .1;
-        right = right;
+        as-many = ap (holesOfKind (asksBy (byteAt S 0))) (values-long (holeIn S) 0 (countIn S)) ∙ count-exact S (long frame r read) (counted frame r read) .1;
+        right = right frame r read;
       })
 
 -- Two frames that are accepted with the same fields and the same holes are the same frame.

@@ -2,7 +2,7 @@
 -- most 49 in each (01, "Fill request").
 -- Assumes nothing.
 use mathlib.Core.Path.{_≡_, refl, sym, ap, ap₂, _∙_}
-use mathlib.Core.Bool.{Bool, true, false, _&&_}
+use mathlib.Core.Bool.{true, false, _&&_}
 use mathlib.Core.Logic.{⊎-elim}
 use mathlib.Core.List.{List, [], _∷_, _++_}
 use Prim.Native.Nat.{ℕ, zero, suc, _+_, _*_, _^_, _≤_, _<_}
@@ -21,12 +21,12 @@ use Rattle.reception.specs.Listing.{listing}
 use Rattle.reception.specs.EveryHole.{endOf, goOn, listedFrom, lastEnd, Ascending, AllHoles}
 use Rattle.reception.proofs.GivenReasons.{lists-15, lists}
 use Rattle.reception.proofs.HoleLaws.{ascending, all-holes-by}
-use Rattle.reception.proofs.ListedLaws.{listed-needs, listed-none, listed-more, listed-most}
+use Rattle.reception.proofs.ListedLaws.{listed-needs, listed-none, listed-most}
 use Rattle.request.specs.declared.Written.{Written}
-use Rattle.request.specs.Request.{mostHoles, holeLength, frameLength}
+use Rattle.request.specs.Request.{mostHoles, frameLength}
 use Rattle.request.specs.Reading.{holesOf}
 use Rattle.request.specs.Writing.{Wanted, holesFrom, filling}
-use Rattle.request.specs.Run.{sent, sendOn, sentFrom, placeOn, placeAfter, together, EachFrame, Lists, Whole}
+use Rattle.request.specs.Run.{sent, sentFrom, placeAfter, together, EachFrame, Lists, Whole}
 use Rattle.request.proofs.WritingLaws.{fills-refused, fills}
 use Rattle.request.proofs.SentLaws.{ascend-earlier, can-write, listed, tells, lists-some, written-fill-is-read, written-holes-are-read}
 

@@ -30,11 +30,11 @@ use Rattle.request.specs.declared.Asks.{Asks}
 use Rattle.request.specs.declared.Asks.the-variants.{Start}
 use Rattle.request.specs.declared.Written.{Written}
 use Rattle.request.specs.declared.Filled.the-variants as filled
-use Rattle.request.specs.Request.{beforeHoles, holeLength, frameLength, requestBefore, holeBytes, holesBytes, requestFrame}
+use Rattle.request.specs.Request.{beforeHoles, bytesPerHole, frameLength, requestBefore, holeBytes, holesBytes, requestFrame}
 use Rattle.request.specs.Writing.{Wanted, shortTarget, holesFrom, filling, fillFrame, Fills, starting}
 
 -- how many bytes holes take
-pub holes-long : (holes : List Hole) → length (holesBytes holes) ≡ length holes * holeLength
+pub holes-long : (holes : List Hole) → length (holesBytes holes) ≡ length holes * bytesPerHole
 holes-long [] = refl
 holes-long (hole ∷ holes) = omega (arith, length-append (holeBytes hole) (holesBytes holes), holes-long holes)
 
@@ -54,8 +54,8 @@ module _ (target : List ℕ) (d s : Address) where
   -- .. and the holes behind both
   pub and-holes : (asks : Asks) (number : ℕ) (holes : List Hole) (entries part before after : List ℕ) (q : Bool)
       → frameLength (length holes) ≤ length target
-      → length holes * holeLength ≤ length entries
-      → part ≡ take (length holes * holeLength) (putIn entries 0 (holesBytes holes))
+      → length holes * bytesPerHole ≤ length entries
+      → part ≡ take (length holes * bytesPerHole) (putIn entries 0 (holesBytes holes))
       → before ≡ putIn target 0 (headBytes d s file ++ requestBefore asks number) → Put before (headLength + beforeHoles) part q after
       → after ≡ putIn target 0 (requestFrame (record { destination = d; source = s }) asks number holes)
   unfolding requestFrame headBytes

@@ -2,21 +2,20 @@
 -- of a file of 32,768 bytes of which everything is held but these holes.
 -- Assumes nothing.
 use mathlib.Core.Path.{_≡_, refl, sym, ap, ap₂, _∙_}
-use mathlib.Core.Bool.{Bool, true, false, cond, not, _&&_, _||_, true≢false}
+use mathlib.Core.Bool.{Bool, true, false, not, _&&_, _||_, true≢false}
 use mathlib.Core.Logic.{_⊎_, inl, inr, ⊎-elim}
 use mathlib.Core.List.{List, [], _∷_}
-use Prim.Native.Nat.{ℕ, zero, suc, _+_, _*_, _≤_, _<_}
+use Prim.Native.Nat.{ℕ, zero, suc, _≤_, _<_}
 use native.Mathlib.Omega.{arith}
-use lib.Dec.{leb, ltb, eqb}
+use lib.Dec.{leb}
 use lib.ListN.{length}
-use borrow.Author.Tests.{leb-true, ltb-true, le-ltb, eqb-true, not-true, not-false}
-use Rattle.reason.specs.Answer.{Answer, accepted, refused}
-use Rattle.reason.proofs.Bools.{and-left, and-right, and-both, or-none, le-or-lt}
-use Rattle.reason.proofs.OrderLaws.{not-both, skip, none-left}
+use borrow.Author.Tests.{leb-true, le-ltb, eqb-true, not-false}
+use Rattle.reason.specs.Answer.{accepted, refused}
+use Rattle.reason.proofs.Bools.{and-left, and-right, and-both, le-or-lt}
+use Rattle.reason.proofs.OrderLaws.{skip, none-left}
 use Rattle.octets.specs.Numbers.{AllBytes}
 use Rattle.octets.specs.Runs.{putIn}
-use Rattle.positions.specs.Spans.{within}
-use Rattle.positions.specs.Map.{held, mapSize, mapOf}
+use Rattle.positions.specs.Map.{held, mapSize}
 use Rattle.positions.proofs.SpanLaws.{in-span, before-span, behind-span}
 use Rattle.positions.proofs.MapLaws.{held-map, map-long}
 use Rattle.ax25.specs.Address.{isWritable}
@@ -31,21 +30,16 @@ use Rattle.reception.proofs.ListedLaws.{listed-none, listed-more, some-listed}
 use Rattle.request.specs.declared.Asks.{Asks}
 use Rattle.request.specs.declared.Asks.the-variants.{Start, Holes}
 use Rattle.request.specs.declared.Request.{Request}
-use Rattle.request.specs.Request.{mostHoles, frameLength, requestFrame, holeRight, holesRight}
+use Rattle.request.specs.Request.{mostHoles, holesOfKind, frameLength, requestFrame, holeRight, holesRight}
 use Rattle.request.specs.Reading.{readRequest, holesOf}
 use Rattle.request.specs.Writing.{Wanted, holesFrom, filling, fillFrame, starting}
-use Rattle.request.specs.Made.{holesOfKind, Makeable}
-use Rattle.request.specs.Run.{names, sent}
+use Rattle.request.specs.Made.{Makeable}
+use Rattle.request.specs.Run.{names, allBut}
 use Rattle.request.proofs.WritingLaws.{fills}
 use Rattle.request.proofs.Naming.{none-before}
 use Rattle.request.proofs.RoundTrip.{accepted-request-is-made, accepted-request-can-be-made}
-use Rattle.request.proofs.SentLaws.{sent-is}
 
 -- ---- holes that keep the rules of a request, as the holes of a map
--- the map of the longest file that holds everything but the holes
-abbrev pub allBut : List Hole → List ℕ
-allBut holes = mapOf (λ p. not (names holes p)) (mapSize longest)
-
 holds-all-but : (holes : List Hole) (p : ℕ) → p < longest → held (allBut holes) p ≡ not (names holes p)
 holds-all-but holes p h = held-map (λ q. not (names holes q)) (mapSize longest) p (omega arith)
 

@@ -1,4 +1,4 @@
--- What private functions promise each other. No promise of a public function cites it.
+-- What private functions promise each other (01, "Fill request"). No promise of a public function cites it.
 -- Assumes nothing.
 use mathlib.Core.Path.{_≡_}
 use mathlib.Core.List.{List}

@@ -4,3 +4,4 @@ pub mod Writing
 pub mod Made
 pub mod Run
 pub mod Inner
+pub mod Says

@@ -2,22 +2,15 @@
 -- accepted frame is one.
 -- Assumes nothing.
 use mathlib.Core.Path.{_≡_}
-use mathlib.Core.Bool.{Bool, true, _&&_}
+use mathlib.Core.Bool.{true}
 use mathlib.Core.List.{List}
 use Prim.Native.Nat.{ℕ, _^_, _<_}
-use lib.Dec.{leb, eqb}
 use lib.ListN.{length}
 use Rattle.ax25.specs.declared.Head.{Head}
 use Rattle.ax25.specs.Address.{isWritable}
 use Rattle.reception.specs.declared.Hole.{Hole}
 use Rattle.request.specs.declared.Asks.{Asks}
-use Rattle.request.specs.declared.Asks.the-variants.{Start, Holes}
-use Rattle.request.specs.Request.{mostHoles, holesRight}
-
--- a request for the start has no holes, one that lists holes has 1 to 49
-abbrev pub holesOfKind : Asks → ℕ → Bool
-holesOfKind Start n = eqb n 0
-holesOfKind Holes n = leb 1 n && leb n mostHoles
+use Rattle.request.specs.Request.{holesOfKind, holesRight}
 
 -- both addresses can be written, the number fits its bytes, there are as many holes as there may be, and they are right
 pub record Makeable (head : Head) (asks : Asks) (number : ℕ) (holes : List Hole) : Type 0 where

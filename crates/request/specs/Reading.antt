@@ -3,7 +3,7 @@
 use mathlib.Core.Bool.{Bool, cond, not, _&&_, _||_}
 use mathlib.Core.List.{List, [], _∷_, _++_}
 use Prim.Native.Nat.{ℕ, _+_, _-_, _*_, _/_, _%_}
-use lib.Dec.{leb, ltb, eqb}
+use lib.Dec.{ltb, eqb}
 use lib.ListN.{length}
 use Rattle.reason.specs.Answer.{Answer, accepted, refused}
 use Rattle.reason.specs.Order.{Check, check, firstOf}
@@ -18,7 +18,7 @@ use Rattle.request.specs.declared.Asks.the-variants.{Start, Holes}
 use Rattle.request.specs.declared.Request.{Request}
 use Rattle.request.specs.declared.RequestRead.{RequestRead}
 use Rattle.request.specs.declared.RequestRead.the-variants.{Accepted, Refused}
-use Rattle.request.specs.Request.{flagsOf, blockSize, mostHoles, beforeHoles, holeLength, holesRight}
+use Rattle.request.specs.Request.{flagsOf, blockSize, holesOfKind, beforeHoles, bytesPerHole, holesRight}
 
 -- the flags ask for the start
 abbrev pub asksStart : ℕ → Bool
@@ -34,15 +34,14 @@ asksBy flags = cond (asksStart flags) Start Holes
 
 -- how many holes follow, and how many bytes are left over
 abbrev pub countIn : List ℕ → ℕ
-countIn s = (length s - beforeHoles) / holeLength
+countIn s = (length s - beforeHoles) / bytesPerHole
 
 abbrev pub oddBytes : List ℕ → ℕ
-oddBytes s = (length s - beforeHoles) % holeLength
+oddBytes s = (length s - beforeHoles) % bytesPerHole
 
--- a request for the start has no holes, a list of holes has 1 to 49 and no odd bytes
+-- no bytes are left over, and there are as many holes as what is asked for has
 abbrev pub countRight : List ℕ → Bool
-countRight s =
-    cond (asksStart (byteAt s 0)) (eqb (length s) beforeHoles) (eqb (oddBytes s) 0 && leb 1 (countIn s) && leb (countIn s) mostHoles)
+countRight s = eqb (oddBytes s) 0 && holesOfKind (asksBy (byteAt s 0)) (countIn s)
 
 -- the hole in the five bytes from a place on: offset (3) and length (2)
 unfoldable pub holeSpelled : List ℕ → ℕ → Hole
@@ -50,7 +49,7 @@ holeSpelled s at = record { start = numberAt 3 s at; length = numberAt 2 s (at +
 
 -- the hole with an index, counted from 0
 abbrev pub holeIn : List ℕ → ℕ → Hole
-holeIn s index = holeSpelled s (beforeHoles + index * holeLength)
+holeIn s index = holeSpelled s (beforeHoles + index * bytesPerHole)
 
 -- all of them
 abbrev pub holesIn : List ℕ → List Hole

@@ -3,7 +3,7 @@
 use mathlib.Core.Bool.{Bool, true, _&&_}
 use mathlib.Core.List.{List, [], _∷_, _++_}
 use Prim.Native.Nat.{ℕ, suc, _+_, _*_}
-use lib.Dec.{leb}
+use lib.Dec.{leb, eqb}
 use Rattle.octets.specs.Numbers.{bytesOf}
 use Rattle.ax25.specs.declared.Head.{Head}
 use Rattle.ax25.specs.Head.{headLength, headBytes}
@@ -27,17 +27,22 @@ blockSize = 244
 abbrev pub mostHoles : ℕ
 mostHoles = 49
 
+-- a request for the start has no holes, one that lists holes has 1 to 49
+abbrev pub holesOfKind : Asks → ℕ → Bool
+holesOfKind Start n = eqb n 0
+holesOfKind Holes n = leb 1 n && leb n mostHoles
+
 -- how many bytes stand before the holes: flags, number and block size
 abbrev pub beforeHoles : ℕ
 beforeHoles = 7
 
 -- how many bytes a hole takes: offset and length
-abbrev pub holeLength : ℕ
-holeLength = 5
+abbrev pub bytesPerHole : ℕ
+bytesPerHole = 5
 
 -- how many bytes a request's frame of n holes has
 abbrev pub frameLength : ℕ → ℕ
-frameLength n = headLength + beforeHoles + n * holeLength
+frameLength n = headLength + beforeHoles + n * bytesPerHole
 
 -- the bytes before the holes
 abbrev pub requestBefore : Asks → ℕ → List ℕ

@@ -1,14 +1,17 @@
--- Requests one after the other (01, "Fill request"): repeated from 0, each time from the end returned, until reason 15.
+-- Requests one after the other (01, "Fill request"): repeated from 0, each time from the end returned, until reason 15;
+-- and which positions they name.
 -- Assumes nothing.
 use mathlib.Core.Path.{_≡_}
-use mathlib.Core.Bool.{Bool, false, cond, _||_}
+use mathlib.Core.Bool.{Bool, false, cond, not, _||_}
 use mathlib.Core.List.{List, [], _∷_, _++_}
 use Prim.Native.Nat.{ℕ, zero, suc, _+_, _≤_}
 use lib.ListN.{length, take}
 use Rattle.reason.specs.Answer.{Answer, accepted, refused}
 use Rattle.octets.specs.Runs.{putIn}
 use Rattle.positions.specs.Spans.{within}
+use Rattle.positions.specs.Map.{mapSize, mapOf}
 use Rattle.reception.specs.declared.Hole.{Hole}
+use Rattle.reception.specs.Reception.{longest}
 use Rattle.reception.specs.EveryHole.{AllHoles}
 use Rattle.request.specs.declared.Asks.the-variants.{Holes}
 use Rattle.request.specs.declared.Written.{Written}
@@ -31,11 +34,12 @@ abbrev pub sentFrom : ℕ → Wanted → List ℕ → ℕ → List (List ℕ)
 sentFrom zero w target place = []
 sentFrom (suc n) w target place = sendOn (filling w place target) (λ x. sent w place target x ∷ sentFrom n w target (x .end))
 
--- the place of the request after those
+-- the place goes on where a request was written, and stays where none was
 abbrev pub placeOn : Answer Written → ℕ → (Written → ℕ) → ℕ
 placeOn (accepted x) place more = more x
 placeOn (refused n) place more = place
 
+-- the place of the request after n of them
 abbrev pub placeAfter : ℕ → Wanted → List ℕ → ℕ → ℕ
 placeAfter zero w target place = place
 placeAfter (suc n) w target place = placeOn (filling w place target) place (λ x. placeAfter n w target (x .end))
@@ -68,6 +72,10 @@ pub record Whole (w : Wanted) (target : List ℕ) (frames : List (List ℕ)) (af
 abbrev pub names : List Hole → ℕ → Bool
 names [] p = false
 names (hole ∷ holes) p = within (hole .start) (hole .length) p || names holes p
+
+-- the map of the longest file that holds everything but the holes
+abbrev pub allBut : List Hole → List ℕ
+allBut holes = mapOf (λ p. not (names holes p)) (mapSize longest)
 
 -- how many of the frames name a position
 abbrev pub naming : List (List ℕ) → ℕ → ℕ

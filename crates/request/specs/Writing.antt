@@ -54,7 +54,7 @@ fillFrame w place = requestFrame (w .head) Holes (w .number) (holesFrom w place)
 
 -- the paper's number and values for each case of `write_fill`'s answer
 abbrev pub filledAnswer : Filled → Answer Written
-filledAnswer (Accepted w) = accepted w
+filledAnswer (Accepted x) = accepted x
 filledAnswer (Refused n) = refused n
 
 -- The promise of `write_fill`: what it answers, and that it leaves the frame in the first bytes of the target, or every byte as it was.

@@ -1,12 +1,12 @@
 // The holes of a request, listed one after the other and written as bytes.
-use super::HOLE_LENGTH;
+use super::BYTES_PER_HOLE;
 use super::MOST_HOLES;
 use reception::Hole;
 use reception::Listed;
 ghost use mathlib.Core.Path.{_≡_};
 ghost use Prim.Native.Nat.{_*_, _≤_, _<_};
 ghost use lib.ListN.{length};
-ghost use Rattle.request.specs.Request.{mostHoles, holeLength, holeBytes};
+ghost use Rattle.request.specs.Request.{mostHoles, bytesPerHole, holeBytes};
 ghost use Rattle.request.specs.Inner.{Gathers};
 
 // How many holes were listed, the end of the last, and the reason at which there were no more, 0 where 49
@@ -30,7 +30,7 @@ fn bytes_of(hole: Hole) -> [u8; 5]
 // Lists the holes that start at the place or later, up to 49, and writes their bytes into the first bytes
 // of the entries. Each hole is looked for from the end of the one before, so the map is read once.
 pub(crate) fn gather(l: u32, map: &[u8], place: u32, entries: &mut [u8]) -> Gathered
-    requires { ⌜ mostHoles * holeLength ≤ length (now entries) ⌝ }
+    requires { ⌜ mostHoles * bytesPerHole ≤ length (now entries) ⌝ }
     ensures { λ r. ⌜ Gathers l (now (map .entry)) place (now (entries .entry)) (r .count) (r .end) (r .reason) (now (entries .exit)) ⌝ }
 {
     let mut count = 0;
@@ -39,7 +39,7 @@ pub(crate) fn gather(l: u32, map: &[u8], place: u32, entries: &mut [u8]) -> Gath
         let next = reception::list(l, map, end);
         match next {
             Listed::Accepted(hole) => {
-                octets::put(entries, (count as usize) * HOLE_LENGTH, &bytes_of(hole));
+                octets::put(entries, (count as usize) * BYTES_PER_HOLE, &bytes_of(hole));
                 count += 1;
                 end = hole.start + hole.length;
             }

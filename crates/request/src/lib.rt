@@ -43,7 +43,7 @@ const BEFORE_HOLES: usize = 7;
 
 const HOLES_AT: usize = 23;
 
-const HOLE_LENGTH: usize = 5;
+const BYTES_PER_HOLE: usize = 5;
 
 // How many bytes the most holes take.
 const ENTRIES: usize = 245;
@@ -103,7 +103,7 @@ pub fn write_fill(
     if listed.count == 0 {
         return Filled::Refused(listed.reason);
     }
-    let size = (listed.count as usize) * HOLE_LENGTH;
+    let size = (listed.count as usize) * BYTES_PER_HOLE;
     if target.len() < HOLES_AT + size {
         return Filled::Refused(12);
     }

@@ -2,7 +2,7 @@
 use super::Asks;
 use super::BEFORE_HOLES;
 use super::BLOCK_SIZE;
-use super::HOLE_LENGTH;
+use super::BYTES_PER_HOLE;
 use super::HOLES_AT;
 use super::LIST_FLAGS;
 use super::MOST_HOLES;
@@ -72,20 +72,20 @@ fn count_in(s: &[u8]) -> usize
     requires { ⌜ beforeHoles ≤ length (now s) ⌝ }
     ensures { λ r. ⌜ r ≡ countIn (now (s .entry)) ⌝ }
 {
-    (s.len() - BEFORE_HOLES) / HOLE_LENGTH
+    (s.len() - BEFORE_HOLES) / BYTES_PER_HOLE
 }
 
-// Whether a request for the start has no holes, and a list of holes 1 to 49 and no odd bytes.
+// Whether no bytes are left over, and a request for the start has no holes and a list of holes 1 to 49.
 fn count_right(s: &[u8]) -> bool
     requires { ⌜ beforeHoles ≤ length (now s) ⌝ }
     ensures { λ r. ⌜ r ≡ countRight (now (s .entry)) ⌝ }
 {
-    if s[0] == START_FLAGS {
-        return s.len() == BEFORE_HOLES;
-    }
     let count = count_in(s);
-    let odd = (s.len() - BEFORE_HOLES) % HOLE_LENGTH;
-    (odd == 0) & (1 <= count) & (count <= (MOST_HOLES as usize))
+    let odd = (s.len() - BEFORE_HOLES) % BYTES_PER_HOLE;
+    if s[0] == START_FLAGS {
+        return (odd == 0) & (count == 0);
+    }
+    (odd == 0) & ((1 <= count) & (count <= (MOST_HOLES as usize)))
 }
 
 // The hole in the five bytes of s from a place on.
@@ -116,7 +116,7 @@ fn holes_right(s: &[u8], count: usize) -> bool
     let mut place = 0;
     let mut i = 0;
     while i < count {
-        let hole = hole_from(s, BEFORE_HOLES + i * HOLE_LENGTH);
+        let hole = hole_from(s, BEFORE_HOLES + i * BYTES_PER_HOLE);
         if !hole_right(place, hole) {
             return false;
         }
@@ -143,5 +143,5 @@ pub(crate) fn below(frame: &[u8], count: u32, index: u32) -> Hole
     if count <= index {
         return none();
     }
-    hole_from(frame, HOLES_AT + (index as usize) * HOLE_LENGTH)
+    hole_from(frame, HOLES_AT + (index as usize) * BYTES_PER_HOLE)
 }

@@ -7,7 +7,7 @@ use native.Mathlib.Numerals.{add-one}
 use native.Mathlib.Omega.{arith}
 use Rattle.reason.proofs.Bools.{le-or-lt}
 use Rattle.positions.proofs.SpanLaws.{no-between}
-use Rattle.report.proofs.DigitLaws.{rest-some, rest-more, few, places-is}
+use Rattle.report.proofs.DigitLaws.{rest-some, rest-more, few, digit-count-is}
 use Rattle.report.proofs.number.places.Statement.{statement}
 use Rattle.report.proofs.number.places.Tie as tie
 
@@ -53,7 +53,7 @@ returns : tie.Need-returns Inv-loop μ-loop
 returns c =
     let i = c .before .loop .inv in
     let none : c .before .loop .rest ≡ 0 = omega arith in
-    places-is (c .before .before .args .n) (c .before .loop .k) (omega arith) (i .0) (i .2) (sym (i .1) ∙ none)
+    digit-count-is (c .before .before .args .n) (c .before .loop .k) (omega arith) (i .0) (i .2) (sym (i .1) ∙ none)
 
 pub places-spec : {M : Type 1} → statement M
 places-spec = tie.close (tie.spec Inv-loop μ-loop loop-holds add-k loop-less loop-again returns)
