@@ -1,0 +1,9 @@
+pub mod Cases
+pub mod TakingLaws
+pub mod AddressLaws
+pub mod ExportLaws
+pub mod FramesLaws
+pub mod OnlyOne
+pub mod Demand1
+pub mod Demand2
+pub mod Demand3

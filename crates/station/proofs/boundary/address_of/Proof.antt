@@ -1,0 +1,36 @@
+-- `address_of` meets its contract: by what `top_byte` answers.
+-- Assumes nothing.
+use borrow.Author.Needs.{needs}
+use Rattle.station.specs.AddressNumber.{addressOf}
+use Rattle.station.proofs.boundary.address_of.Statement.{statement}
+use Rattle.station.proofs.boundary.address_of.Tie as tie
+
+cast-t3 : tie.Need-cast-t3
+cast-t3 c = search needs
+
+cast-t6 : tie.Need-cast-t6
+cast-t6 c = search needs
+
+cast-t9 : tie.Need-cast-t9
+cast-t9 c = search needs
+
+cast-t12 : tie.Need-cast-t12
+cast-t12 c = search needs
+
+cast-t15 : tie.Need-cast-t15
+cast-t15 c = search needs
+
+cast-t18 : tie.Need-cast-t18
+cast-t18 c = search needs
+
+top-byte-requires : tie.Need-top-byte-requires
+top-byte-requires c κs = search needs
+
+returns : tie.Need-returns
+unfolding addressOf
+returns c = rw (c .top-byte .ensures)
+
+pub address-of-spec : {M : Type 1} → statement M
+address-of-spec =
+    tie.close
+    (tie.spec cast-t3 cast-t6 cast-t9 cast-t12 cast-t15 cast-t18 top-byte-requires returns)

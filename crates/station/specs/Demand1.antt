@@ -1,0 +1,91 @@
+-- The customer's first demand, in its words (DEMANDS 1): "Every input gets an answer: frames, requests, records and lent buffers of all
+-- lengths and contents. Each refusal is one of our numbered reasons, given exactly when that reason holds first in our order, and
+-- changes no lent byte."
+-- Assumes nothing.
+use mathlib.Core.Path.{_≡_}
+use mathlib.Core.Logic.{_⊎_}
+use mathlib.Core.List.{List}
+use Prim.Native.Nat.{ℕ}
+use lib.ListN.{length}
+use Rattle.reason.specs.Answer.{Answer, accepted, refused, outcome, Wrote}
+use Rattle.reason.specs.Order.{Check, First, NoneHolds}
+use Rattle.ax25.specs.declared.Head.{Head}
+use Rattle.frame.specs.Piece.{pieceOrder, pieceOf, readPiece, pieceAnswer}
+use Rattle.frame.specs.Entry.{entryOrder, entryOf, readEntry, entryAnswer}
+use Rattle.reception.specs.Reception.{Reception}
+use Rattle.reception.specs.Adding.{ofPiece, ofReception, newIn, addedAnswer}
+use Rattle.reception.specs.Opening.{openingChecks, Opens}
+use Rattle.reception.specs.Joining.{joiningChecks, Joins}
+use Rattle.reception.specs.Holes.{holeFrom}
+use Rattle.reception.specs.Listing.{listingChecks, listing, listedAnswer}
+use Rattle.reception.specs.EveryHole.{lastEnd}
+use Rattle.request.specs.Reading.{requestOrder, requestOf, readRequest, requestAnswer}
+use Rattle.request.specs.Writing.{Wanted, holesFrom, fillChecks, filledAnswer, Fills, startChecks, starting}
+use Rattle.record.specs.Record.{recordLength}
+use Rattle.record.specs.Saving.{savingChecks, savedAnswer, Saves}
+use Rattle.record.specs.Reading.{recordedIn, recordAnswer}
+use Rattle.record.specs.Loading.{loadingChecks, Loads}
+use Rattle.station.specs.Taking.{pieceIn, frameChecks, TakesFrame}
+
+-- Demand 1 of one operation, for one input. `checks` are its reasons in their order, and `value` what it answers if none holds.
+-- `promise r left` is the promise of its function, r being what it answers and `left` what it leaves of what it was lent; `means`
+-- gives the paper's number and values for each answer.
+pub record Answers {R A L : Type 0} (checks : List Check) (value : A) (means : R → Answer A) (lent : L) (promise : R → L → Type 0) : Type 0 where
+  -- every input gets an answer: a reason holds first, or none holds
+  pub answered : ((n : ℕ) × First n checks) ⊎ NoneHolds checks
+  -- a reason is given exactly when it holds first
+  pub refuses-if : (r : R) (left : L) → promise r left → (n : ℕ) → First n checks → means r ≡ refused n
+  pub refuses-only-if : (r : R) (left : L) → promise r left → (n : ℕ) → means r ≡ refused n → First n checks
+  -- and the values exactly when none holds
+  pub accepts-if : (r : R) (left : L) → promise r left → NoneHolds checks → means r ≡ accepted value
+  pub accepts-only-if : (r : R) (left : L) → promise r left → (a : A) → means r ≡ accepted a → NoneHolds checks × (a ≡ value)
+  -- a refusal changes no lent byte
+  pub leaves : (r : R) (left : L) → promise r left → (n : ℕ) → means r ≡ refused n → left ≡ lent
+
+-- what a function that only reads was lent to write to
+abbrev pub nothing : Unit {0}
+nothing = tt {0}
+
+-- a lent map and a lent buffer
+pub record Lent : Type 0 where
+  pub map : List ℕ
+  pub buffer : List ℕ
+
+-- the reception of a file in them
+abbrev pub in-lent : ℕ → ℕ → Lent → Reception
+in-lent number l lent = record { number = number; length = l; map = lent .map; buffer = lent .buffer }
+
+-- Every operation of "Numbered reasons", with 01's words for its order.
+pub record Demand1 : Type 0 where
+  -- "Order in a frame: 1 (below 16), 2, 3, 4, 7 (over 255), 1 (information), 6, 5, 14, 7 (no data), 8": a piece, and an entry
+  pub reads-piece : (frame : List ℕ) → Answers (pieceOrder frame) (pieceOf frame) pieceAnswer nothing (λ r left. pieceAnswer r ≡ readPiece frame)
+  pub reads-entry : (frame : List ℕ) → Answers (entryOrder frame) (entryOf frame) entryAnswer nothing (λ r left. entryAnswer r ≡ readEntry frame)
+  -- "A request frame: 1, 2, 3, 4, 7, 1, 5, 7, 10"
+  pub reads-request : (frame : List ℕ)
+      → Answers (requestOrder frame) (requestOf frame) requestAnswer nothing (λ r left. requestAnswer r ≡ readRequest frame)
+  -- "Taking in a piece: the frame's reasons, then 7 (L), 12, 9, 10, 11"
+  pub takes : (number l : ℕ) (lent : Lent) (frame : List ℕ) → let s = in-lent number l lent in
+      Answers (frameChecks s frame) (newIn s (ofPiece (pieceIn frame))) addedAnswer lent (λ r left. TakesFrame s frame r (left .map) (left .buffer))
+  -- "Opening: 7, 12"
+  pub opens : (l : ℕ) (lent : Lent)
+      → Answers (openingChecks l (lent .map) (lent .buffer)) tt outcome lent (λ r left. Opens l (lent .map) (lent .buffer) r (left .map) (left .buffer))
+  -- "Joining: 7 and 12 (each for either reception), 9, 11"
+  pub joins : (number l : ℕ) (lent : Lent) (t : Reception) → let s = in-lent number l lent in
+      Answers (joiningChecks s t) (newIn s (ofReception t)) addedAnswer lent (λ r left. Joins s t r (left .map) (left .buffer))
+  -- "Listing: 7, 12, 15"
+  pub lists : (l : ℕ) (map : List ℕ) (place : ℕ)
+      → Answers (listingChecks l map place) (holeFrom l map place) listedAnswer nothing (λ r left. listedAnswer r ≡ listing l map place)
+  -- "Writing a request: 2, 7, 12 (map), 15, 12 (target)"
+  pub fills : (w : Wanted) (place : ℕ) (target : List ℕ)
+      → Answers (fillChecks w place target) (record { count = length (holesFrom w place); end = lastEnd place (holesFrom w place) }) filledAnswer
+      target (Fills w place target)
+  -- "A start request: 2, 12"
+  pub starts : (head : Head) (number : ℕ) (target : List ℕ)
+      → Answers (startChecks head target) tt outcome target (Wrote target (starting head number target))
+  -- "Saving: 7, 12"
+  pub saves : (s : Reception) (target : List ℕ)
+      → Answers (savingChecks s target) (recordLength (s .length)) savedAnswer target (Saves s target)
+  -- "Loading: 13, 12"
+  pub loads : (saved : List ℕ) (lent : Lent)
+      → Answers (loadingChecks saved (lent .map) (lent .buffer)) (recordedIn saved) recordAnswer lent
+      (λ r left. Loads saved (lent .map) (lent .buffer) r (left .map) (left .buffer))

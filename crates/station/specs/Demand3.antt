@@ -1,0 +1,78 @@
+-- The customer's third demand, in its words (DEMANDS 3), over frames: what stations that collect one file hold, what joining gives, and
+-- what the listed holes are. It speaks of the definitions that the promises of `open`, `take`, `join` and `list` cite.
+-- Assumes nothing.
+use mathlib.Core.Path.{_≡_}
+use mathlib.Core.Bool.{true, false, not, _&&_, _||_}
+use mathlib.Core.List.{List, _++_}
+use Prim.Native.Nat.{ℕ, _≤_}
+use lib.ListN.{length, take, drop}
+use Rattle.reason.specs.Answer.{accepted, refused}
+use Rattle.octets.specs.Numbers.{AllBytes}
+use Rattle.positions.specs.Spans.{count}
+use Rattle.positions.specs.Map.{held, mapSize}
+use Rattle.reception.specs.declared.Hole.{Hole}
+use Rattle.reception.specs.Reception.{Reception}
+use Rattle.reception.specs.Opening.{opening, opened}
+use Rattle.reception.specs.Joining.{joining, joined}
+use Rattle.reception.specs.Sequences.{AgreesWith}
+use Rattle.reception.specs.Holes.{IsHole}
+use Rattle.reception.specs.Listing.{listing}
+use Rattle.reception.specs.EveryHole.{listedFrom, AllHoles}
+use Rattle.reception.specs.Contents.{HoldsOf, itself, beyond}
+use Rattle.station.specs.Taking.{pieceIn, takingFrame, takenFrame}
+use Rattle.station.specs.Sequences.{coveredIn, fitsFile, covered, Among}
+use Rattle.station.specs.Stations.{Station, fresh, receptionOf, Made}
+
+-- For a file with a number and a length that can be opened. A `Station` has lent space of any sufficient length, and takes in any
+-- sequence of frames of which every piece that fits number and length agrees with the file.
+pub record Demand3 (number l : ℕ) (file : List ℕ) : Type 0 where
+  -- "A position is then held exactly if an accepted piece covered it, held bytes are the file's, the others are zero." So are the
+  -- spare bits of the map.
+  pub held-exactly : (a : Station number l file) → HoldsOf number l file (coveredIn (fresh a) (a .frames)) (receptionOf a)
+  -- The accepted pieces cover what the pieces that fit cover. This says nothing of an order, and a frame that comes again adds
+  -- nothing to it: loss, repeats and order are free.
+  pub accepted-are-fitting : (a : Station number l file) (p : ℕ) → coveredIn (fresh a) (a .frames) p ≡ covered number l (a .frames) p
+  pub same-coverage : (a b : Station number l file) → ((p : ℕ) → covered number l (a .frames) p ≡ covered number l (b .frames) p)
+      → itself (receptionOf a) ≡ itself (receptionOf b)
+  -- A frame that fits and agrees is accepted, and the count is that of its positions that no frame had covered; any other frame is
+  -- refused, and changes nothing.
+  pub fitting-is-taken : (a : Station number l file) (frame : List ℕ) → fitsFile number l frame ≡ true → AgreesWith file (pieceIn frame)
+      → takingFrame (receptionOf a) frame ≡ accepted
+      (count (λ p. not (covered number l (a .frames) p)) (pieceIn frame .offset) (length (pieceIn frame .bytes)))
+  pub other-is-refused : (a : Station number l file) (frame : List ℕ) → fitsFile number l frame ≡ false
+      → ((n : ℕ) × (takingFrame (receptionOf a) frame ≡ refused n)) × (takenFrame (receptionOf a) frame ≡ receptionOf a)
+  -- A repeated piece does not spoil the file: a frame that was taken in before counts 0 and changes nothing.
+  pub repeat-counts-0 : (a : Station number l file) (frame : List ℕ) → Among frame (a .frames) → fitsFile number l frame ≡ true
+      → (takingFrame (receptionOf a) frame ≡ accepted 0) × (takenFrame (receptionOf a) frame ≡ receptionOf a)
+  -- Lent space beyond the ceil(L/8) bytes of the map and the L bytes of the buffer never changes.
+  pub beyond-unchanged : (a : Station number l file)
+      → beyond (receptionOf a) ≡ record { map = drop (mapSize l) (a .map); buffer = drop l (a .buffer) }
+  -- "Joining the two receptions gives, byte for byte, what one station would hold after both sequences": one that was lent what the
+  -- first was lent, in all of that; and one that was lent anything else, in the map and the buffer of the file.
+  pub join-is-one-station : (a b c : Station number l file) → c .map ≡ a .map → c .buffer ≡ a .buffer → c .frames ≡ a .frames ++ b .frames
+      → joined (receptionOf a) (receptionOf b) ≡ receptionOf c
+  pub join-is-any-station : (a b c : Station number l file)
+      → ((p : ℕ) → covered number l (c .frames) p ≡ (covered number l (a .frames) p || covered number l (b .frames) p))
+      → itself (joined (receptionOf a) (receptionOf b)) ≡ itself (receptionOf c)
+  -- A join among receptions made in this way is never refused, and counts the positions that only the second holds.
+  pub join-counts : (s t : Reception) → Made number l file s → Made number l file t
+      → joining s t ≡ accepted (count (λ p. held (t .map) p && not (held (s .map) p)) 0 l)
+  -- "joining leaves the same map and buffer in either order and any grouping ..
+  pub either-order : (s t : Reception) → Made number l file s → Made number l file t → itself (joined s t) ≡ itself (joined t s)
+  pub any-grouping : (s t u : Reception) → Made number l file s → Made number l file t → Made number l file u
+      → joined (joined s t) u ≡ joined s (joined t u)
+  -- .. is unchanged by repetition ..
+  pub repeated : (s t : Reception) → Made number l file s → Made number l file t
+      → (joined (joined s t) t ≡ joined s t) × (joining (joined s t) t ≡ accepted 0)
+  pub with-itself : (s : Reception) → Made number l file s → joined s s ≡ s
+  -- .. and has a fresh reception as its neutral", on both sides.
+  pub fresh-is-neutral : (s : Reception) → Made number l file s → (map buffer : List ℕ) → AllBytes map → opening l map buffer ≡ accepted tt
+      → (joined s (opened number l map buffer) ≡ s) × (itself (joined (opened number l map buffer) s) ≡ itself s)
+  -- "The holes listed are exactly the longest missing runs, ascending": asked from 0, then each time from the end of the last, until
+  -- 15. Every position that is missing stands in one, and what is answered from any place is the first that starts there or later.
+  pub holes-listed : (s : Reception) → Made number l file s → AllHoles l (s .map) (listedFrom l l (s .map) 0)
+  pub first-from-place : (s : Reception) → Made number l file s → (place : ℕ) (hole : Hole) → listing l (s .map) place ≡ accepted hole
+      → IsHole l (s .map) hole × (place ≤ hole .start) × ((other : Hole) → IsHole l (s .map) other → place ≤ other .start → hole .start ≤ other .start)
+  -- "with none left, the buffer is the file."
+  pub none-left-is-the-file : (s : Reception) → Made number l file s → length file ≡ l → listing l (s .map) 0 ≡ refused 15
+      → take l (s .buffer) ≡ file

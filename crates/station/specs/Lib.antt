@@ -1,0 +1,10 @@
+pub mod Taking
+pub mod Boundary
+pub mod AddressNumber
+pub mod Exports
+pub mod Sequences
+pub mod Stations
+pub mod Demand1
+pub mod Demand2
+pub mod Demand3
+pub mod Cases

@@ -1,0 +1,93 @@
+// The station: every operation of the library under one name, and where its promise stands. Open this first.
+//
+// A station hears frames, keeps what it received of a file in a map and a buffer that it was lent, joins
+// another station's reception, lists the holes that are left, asks for them, and saves what it has:
+//
+//   operation      does                                           refuses                    its promise
+//   open           clears the map and the buffer of a file        7, 12                      reception, specs/Opening
+//   take           takes a frame into a reception                 the frame's, 7, 12, 9,     station, specs/Taking
+//                                                                 10, 11
+//   join           puts a second reception into the first         7, 12, 9, 11               reception, specs/Joining
+//   list           the first hole at a place or later             7, 12, 15                  reception, specs/Listing
+//   is_held,       a position of a file, and how many             –                          reception, specs/Held
+//   count_held
+//   read_piece     a frame as a file piece                        1, 2, 3, 4, 7, 1, 6, 5, 7  frame, specs/Piece
+//   piece_bytes,   the piece itself, a part of the frame          –                          frame, specs/Piece
+//   piece_of
+//   read_entry     a frame as a directory entry                   1, 2, 3, 4, 7, 1, 6, 5,    frame, specs/Entry
+//                                                                 14, 8
+//   header_bytes,  its file header, a part of the frame           –                          frame, specs/Entry
+//   header_of
+//   item_bytes     an item's data, a part of the header           –                          header, specs/Data
+//   write_fill     a request for holes                            2, 7, 12, 15, 12           request, specs/Writing
+//   write_start    a request for the start of a file              2, 12                      request, specs/Writing
+//   read_request   a frame as a request                           1, 2, 3, 4, 7, 1, 5, 7,    request, specs/Reading
+//                                                                 10
+//   hole_at,       a hole of a request by its index               –                          request, specs/Reading
+//   hole_of
+//   save           a reception as a record                        7, 12                      record, specs/Saving
+//   load           a record into a map and a buffer               13, 12                     record, specs/Loading
+//   read_record    what a record says, nothing copied             13                         record, specs/Reading
+//   map_of         its map, a part of the record                  –                          record, specs/Reading
+//
+// An operation answers its values, or one numbered reason in the order above and then no lent byte has
+// changed; none asks anything of its caller. `boundary.rt` has the same operations for a host program, on
+// numbers and byte slices alone (specs/Exports). Below these stand `ax25` (addresses and heads), `header`
+// (file headers), `remainder` (the check), `octets` (numbers and runs of bytes), `positions` (what a map's
+// bits mean) and `reason` (answers, and reasons in their order); above them `report`, the hole program's text.
+//
+// What all of it adds up to is the customer's three demands: they stand in `specs/Demand1.antt`,
+// `specs/Demand2.antt` and `specs/Demand3.antt`, and are proved in `proofs/` under the same names; the
+// worked cases of 01 stand in `specs/Cases.antt`. That no second answer meets a promise is in
+// `proofs/OnlyOne.antt` of each crate.
+mod boundary;
+
+use frame::PieceRead;
+pub use frame::header_bytes;
+pub use frame::header_of;
+pub use frame::piece_bytes;
+pub use frame::piece_of;
+pub use frame::read_entry;
+pub use frame::read_piece;
+pub use header::item_bytes;
+pub use reception::Added;
+pub use reception::count_held;
+pub use reception::is_held;
+pub use reception::join;
+pub use reception::list;
+pub use reception::open;
+pub use record::load;
+pub use record::map_of;
+pub use record::read_record;
+pub use record::save;
+pub use request::hole_at;
+pub use request::hole_of;
+pub use request::read_request;
+pub use request::write_fill;
+pub use request::write_start;
+ghost use Rattle.station.specs.Taking.{TakesFrame};
+
+// Takes a frame into the reception of the file with a number and a length, and answers how many positions
+// are newly held: 0 for a repeat. It refuses 1 (below 16), 2, 3, 4, 7 (over 255), 1 (information), 6, 5,
+// 7 (no data), as `read_piece`, and then 7 (L), 12, 9, 10, 11.
+pub fn take(number: u32, length: u32, map: &mut [u8], buffer: &mut [u8], frame: &[u8]) -> Added
+    ensures { λ r. ⌜ TakesFrame (record { number = number; length = length; map = now (map .entry); buffer = now (buffer .entry) })
+        (now (frame .entry)) r (now (map .exit)) (now (buffer .exit)) ⌝ }
+{
+    let read = frame::read_piece(frame);
+    match read {
+        PieceRead::Accepted(piece) => {
+            let bytes = frame::piece_of(frame, read);
+            reception::take(
+                number,
+                length,
+                map,
+                buffer,
+                piece.number,
+                piece.offset,
+                bytes,
+            )
+        }
+        PieceRead::Refused(n) => Added::Refused(n),
+    }
+}
