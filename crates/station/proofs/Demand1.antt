@@ -1,16 +1,22 @@
 -- The first demand, proved: one law for all operations, and for each the theorem of its order in its own crate.
 -- Assumes nothing.
 use mathlib.Core.Path.{_≡_, refl, sym, ap, ap₂, _∙_}
+use mathlib.Core.Bool.{Bool, true, _&&_}
 use mathlib.Core.Logic.{_⊎_, inl, inr}
-use mathlib.Core.List.{List}
-use Prim.Native.Nat.{ℕ}
+use mathlib.Core.List.{List, [], _∷_}
+use Prim.Native.Nat.{ℕ, _≤_}
+use native.Mathlib.Omega.{arith}
+use lib.Dec.{leb}
 use lib.ListN.{length}
+use borrow.Author.Tests.{leb-true}
 use Rattle.reason.specs.Answer.{Answer, accepted, refused, telling, leaving, outcome, Wrote, Writes}
-use Rattle.reason.specs.Order.{Check, firstOf, First, NoneHolds, Exactly}
+use Rattle.reason.specs.Order.{Check, check, firstOf, First, NoneHolds, Exactly}
+use Rattle.reason.proofs.Bools.{and-left, and-right}
 use Rattle.reason.proofs.OrderLaws.{not-both, exactly, answered, accepted-only-if}
 use Rattle.octets.specs.Runs.{putIn}
-use Rattle.frame.specs.Piece.{pieceOrder, pieceOf, readPiece, pieceAnswer}
-use Rattle.frame.specs.Entry.{entryOrder, entryOf, readEntry, entryAnswer}
+use Rattle.ax25.specs.Head.{headChecks}
+use Rattle.frame.specs.Piece.{pieceChecks, pieceOrder, pieceOf, readPiece, pieceAnswer}
+use Rattle.frame.specs.Entry.{entryChecks, entryOrder, entryOf, readEntry, entryAnswer}
 use Rattle.frame.proofs.InOrder.{read-piece-in-order, read-entry-in-order}
 use Rattle.reception.specs.Reception.{Reception}
 use Rattle.reception.specs.Adding.{Offer, ofPiece, ofReception, newIn, mapWith, bufferWith, addedAnswer, Adds}
@@ -20,7 +26,7 @@ use Rattle.reception.specs.Holes.{holeFrom}
 use Rattle.reception.specs.Listing.{listingChecks, listing, listedAnswer}
 use Rattle.reception.specs.EveryHole.{lastEnd}
 use Rattle.reception.proofs.InOrder.{open-in-order, join-in-order, list-in-order}
-use Rattle.request.specs.Reading.{requestOrder, requestOf, readRequest, requestAnswer}
+use Rattle.request.specs.Reading.{requestChecks, requestOrder, requestOf, readRequest, requestAnswer}
 use Rattle.request.specs.Writing.{holesFrom, fillChecks, filling, fillFrame, filledAnswer, startChecks, starting}
 use Rattle.request.proofs.InOrder.{read-request-in-order, write-fill-in-order, write-start-in-order}
 use Rattle.record.specs.Record.{recordOf, recordLength}
@@ -30,7 +36,7 @@ use Rattle.record.specs.Loading.{loadingChecks, loading, loadedMap, loadedBuffe
 use Rattle.record.proofs.InOrder.{save-in-order, load-in-order}
 use Rattle.station.specs.Taking.{pieceIn, frameChecks, takingFrame}
 use Rattle.station.specs.Boundary.{code}
-use Rattle.station.specs.Demand1.{Answers, nothing, Lent, in-lent, Demand1}
+use Rattle.station.specs.Demand1.{lastReason, Answers, nothing, Lent, in-lent, Demand1}
 
 -- the order of taking a frame in
 pub take-in-order : (s : Reception) (frame : List ℕ) → Exactly (frameChecks s frame) (newIn s (ofPiece (pieceIn frame))) (takingFrame s frame)
@@ -38,20 +44,35 @@ unfolding takingFrame
 take-in-order s frame = exactly (frameChecks s frame) (newIn s (ofPiece (pieceIn frame)))
 
 -- a reason holds first, or none holds
-some-or-none : (checks : List Check) → ((n : ℕ) × First n checks) ⊎ NoneHolds checks
+pub some-or-none : (checks : List Check) → ((n : ℕ) × First n checks) ⊎ NoneHolds checks
 some-or-none checks = by (answered checks (tt {0}))
   where
     by : (firstOf checks (tt {0}) ≡ accepted (tt {0})) ⊎ ((n : ℕ) × First n checks) → ((n : ℕ) × First n checks) ⊎ NoneHolds checks
     by (inl e) = inr (accepted-only-if checks (tt {0}) (tt {0}) e .0)
     by (inr first) = inl first
 
+-- each number of an order is one of the numbered reasons
+abbrev pub inTable : List Check → Bool
+inTable [] = true
+inTable (check holds n ∷ checks) = (leb 1 n && leb n lastReason) && inTable checks
+
+pub in-table : (checks : List Check) → inTable checks ≡ true → (n : ℕ) → First n checks → (1 ≤ n) × (n ≤ lastReason)
+in-table (check holds m ∷ checks) t n (inl first) =
+    let both = and-left (leb 1 m && leb m lastReason) (inTable checks) t in
+    let low = leb-true 1 m (and-left (leb 1 m) (leb m lastReason) both) in
+    let high = leb-true m lastReason (and-right (leb 1 m) (leb m lastReason) both) in
+    let is : m ≡ n = first .1 in
+    (omega (arith, low, is), omega (arith, high, is))
+in-table (check holds m ∷ checks) t n (inr later) = in-table checks (and-right (leb 1 m && leb m lastReason) (inTable checks) t) n (later .1)
+
 -- the law for all operations: by the definition's answer, that the promise gives it, and that a refusal leaves what was lent
 module _ {R A L : Type 0} (checks : List Check) (value : A) (means : R → Answer A) (lent : L) (promise : R → L → Type 0) (answer : Answer A)
-    (order : Exactly checks value answer) (gives : (r : R) (left : L) → promise r left → means r ≡ answer)
+    (table : inTable checks ≡ true) (order : Exactly checks value answer) (gives : (r : R) (left : L) → promise r left → means r ≡ answer)
     (keeps : (r : R) (left : L) → promise r left → (n : ℕ) → answer ≡ refused n → left ≡ lent) where
   by-order : Answers checks value means lent promise
   by-order = record {
     answered = some-or-none checks;
+    numbered = in-table checks table;
     refuses-if = λ r left p n first. gives r left p ∙ order .refuses-if n first;
     refuses-only-if = λ r left p n e. order .refuses-only-if n (sym (gives r left p) ∙ e);
     accepts-if = λ r left p none. gives r left p ∙ order .accepts-if none;
@@ -66,18 +87,21 @@ both-kept answer f g lent left n e m b =
     ap₂ (λ (x y : List ℕ). record { map = x; buffer = y }) (m ∙ ap (leaving f (lent .map)) e) (b ∙ ap (leaving g (lent .buffer)) e)
 
 -- .. in adding an offer
-adds : (number l : ℕ) (lent : Lent) (o : Offer) (checks : List Check) (value : ℕ) (answer : Answer ℕ) → Exactly checks value answer
+adds : (number l : ℕ) (lent : Lent) (o : Offer) (checks : List Check) (value : ℕ) (answer : Answer ℕ) → inTable checks ≡ true
+    → Exactly checks value answer
     → let s = in-lent number l lent in Answers checks value addedAnswer lent (λ r left. Adds s o answer r (left .map) (left .buffer))
-adds number l lent o checks value answer order =
+adds number l lent o checks value answer table order =
     let s = in-lent number l lent in
-    by-order checks value addedAnswer lent (λ r left. Adds s o answer r (left .map) (left .buffer)) answer order (λ r left p. p .answers)
+    by-order checks value addedAnswer lent (λ r left. Adds s o answer r (left .map) (left .buffer)) answer table order (λ r left p. p .answers)
     (λ r left p n e. both-kept answer (λ k. mapWith s o) (λ k. bufferWith s o) lent left n e (p .leaves-map) (p .leaves-buffer))
 
 -- .. and one list, which a writer that tells values leaves
-writes : {R A : Type 0} (checks : List Check) (value : A) (means : R → Answer A) (target : List ℕ) (answer : Answer A) (made : A → List ℕ) → Exactly checks value answer
+writes : {R A : Type 0} (checks : List Check) (value : A) (means : R → Answer A) (target : List ℕ) (answer : Answer A) (made : A → List ℕ)
+    → inTable checks ≡ true
+    → Exactly checks value answer
     → Answers checks value means target (λ r left. Writes target answer made (means r) left)
-writes checks value means target answer made order =
-    by-order checks value means target (λ r left. Writes target answer made (means r) left) answer order (λ r left p. p .answers)
+writes checks value means target answer made table order =
+    by-order checks value means target (λ r left. Writes target answer made (means r) left) answer table order (λ r left p. p .answers)
     (λ r left p n e. p .bytes ∙ ap (leaving made target) e)
 
 -- the order of a writer that has nothing to tell
@@ -98,41 +122,36 @@ done-in-order {A} checks value answer order = record {
     accepts (accepted a) is e = order .accepts-only-if a is .0
     accepts (refused m) {u} is e = absurd (not-both u m e refl)
 
+-- an operation that only reads
+reads : {R A : Type 0} (checks : List Check) (value : A) (means : R → Answer A) (answer : Answer A) → inTable checks ≡ true
+    → Exactly checks value answer → Answers checks value means nothing (λ r left. means r ≡ answer)
+reads checks value means answer table order =
+    by-order checks value means nothing (λ r left. means r ≡ answer) answer table order (λ r left p. p) (λ r left p n e. refl)
+
 -- ---- each operation
 pub demand-1 : Demand1
+unfolding headChecks pieceChecks entryChecks requestChecks
 demand-1 = record {
-  reads-piece = λ frame. by-order (pieceOrder frame) (pieceOf frame) pieceAnswer nothing (λ r left. pieceAnswer r ≡ readPiece frame) (readPiece frame) (read-piece-in-order frame)
-      (λ r left p. p) (λ r left p n e. refl);
-  reads-entry = λ frame. by-order (entryOrder frame) (entryOf frame) entryAnswer nothing (λ r left. entryAnswer r ≡ readEntry frame) (readEntry frame) (read-entry-in-order frame)
-      (λ r left p. p) (λ r left p n e. refl);
-  reads-request = λ frame. by-order (requestOrder frame) (requestOf frame) requestAnswer nothing (λ r left. requestAnswer r ≡ readRequest frame) (readRequest frame) (read-request-in-order frame)
-      (λ r left p. p) (λ r left p n e. refl);
-  takes = λ number l lent frame. let s = in-lent number l lent in
-      adds number l lent (ofPiece (pieceIn frame)) (frameChecks s frame) (newIn s (ofPiece (pieceIn frame))) (takingFrame s frame) (take-in-order s frame);
-  opens = λ l lent.
-      by-order (openingChecks l (lent .map) (lent .buffer)) tt outcome lent (λ r left. Opens l (lent .map) (lent .buffer) r (left .map) (left .buffer))
-      (opening l (lent .map) (lent .buffer)) (open-in-order l (lent .map) (lent .buffer)) (λ r left p. p .answers)
-      (λ r left p n e. both-kept (opening l (lent .map) (lent .buffer)) (λ u. openedMap l (lent .map)) (λ u. openedBuffer l (lent .buffer)) lent left n e (p .leaves-map) (p .leaves-buffer));
-  joins = λ number l lent t. let s = in-lent number l lent in
-      adds number l lent (ofReception t) (joiningChecks s t) (newIn s (ofReception t)) (joining s t) (join-in-order s t);
-  lists = λ l map place.
-      by-order (listingChecks l map place) (holeFrom l map place) listedAnswer nothing (λ r left. listedAnswer r ≡ listing l map place) (listing l map place) (list-in-order l map place)
-      (λ r left p. p) (λ r left p n e. refl);
-  fills = λ w place target.
-      writes (fillChecks w place target) (record { count = length (holesFrom w place); end = lastEnd place (holesFrom w place) }) filledAnswer target
-      (filling w place target) (λ x. putIn target 0 (fillFrame w place)) (write-fill-in-order w place target);
-  starts = λ head number target.
-      by-order (startChecks head target) tt outcome target (Wrote target (starting head number target)) (telling (λ left. tt {0}) (starting head number target))
-      (done-in-order (startChecks head target) _ (starting head number target) (write-start-in-order head number target)) (λ r left p. p .answer)
-      (λ r left p n e. p .bytes ∙ kept target (starting head number target) n e);
-  saves = λ s target.
-      writes (savingChecks s target) (recordLength (s .length)) savedAnswer target (saving s target) (λ n. putIn target 0 (recordOf s)) (save-in-order s target);
-  loads = λ saved lent.
-      by-order (loadingChecks saved (lent .map) (lent .buffer)) (recordedIn saved) recordAnswer lent (λ r left. Loads saved (lent .map) (lent .buffer) r (left .map) (left .buffer))
-      (loading saved (lent .map) (lent .buffer)) (load-in-order saved (lent .map) (lent .buffer)) (λ r left p. p .answers)
-      (λ r left p n e. both-kept (loading saved (lent .map) (lent .buffer)) (λ x. loadedMap saved (lent .map)) (λ x. loadedBuffer saved (lent .buffer)) lent left n e (p .leaves-map) (p .leaves-buffer));
+  reads-piece = λ frame. reads _ _ _ (readPiece frame) refl (read-piece-in-order frame);
+  reads-entry = λ frame. reads _ _ _ (readEntry frame) refl (read-entry-in-order frame);
+  reads-request = λ frame. reads _ _ _ (readRequest frame) refl (read-request-in-order frame);
+  takes = λ number l lent frame. let s = in-lent number l lent in adds number l lent _ _ _ (takingFrame s frame) refl (take-in-order s frame);
+  opens = λ l lent. let answer = opening l (lent .map) (lent .buffer) in
+      by-order _ _ outcome lent _ answer refl (open-in-order l (lent .map) (lent .buffer)) (λ r left p. p .answers)
+      (λ r left p n e. both-kept answer _ _ lent left n e (p .leaves-map) (p .leaves-buffer));
+  joins = λ number l lent t. let s = in-lent number l lent in adds number l lent _ _ _ (joining s t) refl (join-in-order s t);
+  lists = λ l map place. reads _ _ _ (listing l map place) refl (list-in-order l map place);
+  fills = λ w place target. writes _ _ filledAnswer target (filling w place target) _ refl (write-fill-in-order w place target);
+  starts = λ head number target. let made = starting head number target in
+      by-order _ _ outcome target _ (telling (λ left. tt {0}) made) refl (done-in-order _ _ made (write-start-in-order head number target))
+      (λ r left p. p .answer) (λ r left p n e. p .bytes ∙ kept target made n e);
+  saves = λ s target. writes _ _ savedAnswer target (saving s target) _ refl (save-in-order s target);
+  loads = λ saved lent. let answer = loading saved (lent .map) (lent .buffer) in
+      by-order _ _ recordAnswer lent _ answer refl (load-in-order saved (lent .map) (lent .buffer)) (λ r left p. p .answers)
+      (λ r left p n e. both-kept answer _ _ lent left n e (p .leaves-map) (p .leaves-buffer));
 }
   where
-    kept : (target : List ℕ) (made : Answer (List ℕ)) (n : ℕ) → telling (λ left. tt {0}) made ≡ refused n → leaving (λ left. left) target made ≡ target
+    kept : (target : List ℕ) (made : Answer (List ℕ)) (n : ℕ) → telling (λ left. tt {0}) made ≡ refused n
+        → leaving (λ left. left) target made ≡ target
     kept target (accepted a) n e = absurd (not-both (tt {0}) n refl e)
     kept target (refused m) n e = refl

@@ -59,19 +59,24 @@ module _ (number l : ℕ) (file : List ℕ) (ok : wrongLength l ≡ false) where
   held-exactly a =
       told number l file (pieces.coveredIn (fresh a) (by.piecesIn (a .frames))) (coveredIn (fresh a) (a .frames)) (receptionOf a)
       (λ p. sym (by.covered-by-pieces (fresh a) (a .frames) p))
-      (carry (HoldsOf number l file (pieces.coveredIn (fresh a) (by.piecesIn (a .frames)))) (receptionOf a) (stations.receptionOf (Over a)) (same a) (over.holds-the-accepted number l file ok (Over a)))
+      (carry (HoldsOf number l file (pieces.coveredIn (fresh a) (by.piecesIn (a .frames)))) (receptionOf a) (stations.receptionOf (Over a)) (same a)
+      (over.holds-the-accepted number l file ok (Over a)))
 
   accepted-are-fitting : (a : Station number l file) (p : ℕ) → coveredIn (fresh a) (a .frames) p ≡ covered number l (a .frames) p
   accepted-are-fitting a p =
-      by.covered-by-pieces (fresh a) (a .frames) p ∙ over.accepted-are-fitting number l file ok (Over a) p ∙ sym (by.fitting-by-pieces number l (a .frames) p)
+      by.covered-by-pieces (fresh a) (a .frames) p
+      ∙ over.accepted-are-fitting number l file ok (Over a) p
+      ∙ sym (by.fitting-by-pieces number l (a .frames) p)
 
   holds-fitting : (a : Station number l file) → HoldsOf number l file (covered number l (a .frames)) (receptionOf a)
-  holds-fitting a = told number l file (coveredIn (fresh a) (a .frames)) (covered number l (a .frames)) (receptionOf a) (accepted-are-fitting a) (held-exactly a)
+  holds-fitting a =
+      told number l file (coveredIn (fresh a) (a .frames)) (covered number l (a .frames)) (receptionOf a) (accepted-are-fitting a) (held-exactly a)
 
   same-coverage : (a b : Station number l file) → ((p : ℕ) → covered number l (a .frames) p ≡ covered number l (b .frames) p)
       → itself (receptionOf a) ≡ itself (receptionOf b)
   same-coverage a b e =
-      same-reception number l file (covered number l (a .frames)) (covered number l (b .frames)) (receptionOf a) (receptionOf b) (holds-fitting a) (holds-fitting b) (λ p _. e p)
+      same-reception number l file (covered number l (a .frames)) (covered number l (b .frames)) (receptionOf a) (receptionOf b) (holds-fitting a)
+      (holds-fitting b) (λ p _. e p)
 
   beyond-unchanged : (a : Station number l file) → beyond (receptionOf a) ≡ beyond (fresh a)
   beyond-unchanged a = ap beyond (same a) ∙ over.station-beyond number l file ok (Over a)
@@ -79,13 +84,15 @@ module _ (number l : ℕ) (file : List ℕ) (ok : wrongLength l ≡ false) where
   -- ---- one frame more
   module _ (a : Station number l file) (frame : List ℕ) where
     fitting-is-taken : fitsFile number l frame ≡ true → AgreesWith file (pieceIn frame)
-        → takingFrame (receptionOf a) frame ≡ accepted (count (λ p. not (covered number l (a .frames) p)) (pieceIn frame .offset) (length (pieceIn frame .bytes)))
+        → takingFrame (receptionOf a) frame ≡ accepted
+        (count (λ p. not (covered number l (a .frames) p)) (pieceIn frame .offset) (length (pieceIn frame .bytes)))
     fitting-is-taken fit agree =
         let f = fitting-frame number l frame fit in
         frame-accepted (receptionOf a) frame (f .0 .0) (f .0 .1)
         ∙ ap (λ (s : Reception). taking s (pieceIn frame)) (same a)
         ∙ over.piece-is-taken number l file ok (Over a) (pieceIn frame) (f .1) agree
-        ∙ ap accepted (count-same (λ p. not (pieces.covered number l (by.piecesIn (a .frames)) p)) (λ p. not (covered number l (a .frames) p)) (pieceIn frame .offset) (length (pieceIn frame .bytes))
+        ∙ ap accepted (count-same (λ p. not (pieces.covered number l (by.piecesIn (a .frames)) p)) (λ p. not (covered number l (a .frames) p))
+        (pieceIn frame .offset) (length (pieceIn frame .bytes))
         (λ p _ _. ap not (sym (by.fitting-by-pieces number l (a .frames) p))))
 
     other-is-refused : fitsFile number l frame ≡ false
@@ -102,7 +109,8 @@ module _ (number l : ℕ) (file : List ℕ) (ok : wrongLength l ≡ false) where
             ((r .0, answer), ap (after (receptionOf a) (ofPiece (pieceIn frame))) answer)
 
     -- a piece whose positions are all covered changes nothing
-    module _ (fit : fitsFile number l frame ≡ true) (agree : AgreesWith file (pieceIn frame)) (all : (p : ℕ) → inPiece frame p ≡ true → covered number l (a .frames) p ≡ true) where
+    module _ (fit : fitsFile number l frame ≡ true) (agree : AgreesWith file (pieceIn frame))
+        (all : (p : ℕ) → inPiece frame p ≡ true → covered number l (a .frames) p ≡ true) where
       nothing-new : takingFrame (receptionOf a) frame ≡ accepted 0
       nothing-new =
           fitting-is-taken fit agree
@@ -113,7 +121,8 @@ module _ (number l : ℕ) (file : List ℕ) (ok : wrongLength l ≡ false) where
           → (covered number l (a .frames) p || pieces.covers number l (pieceIn frame) p) ≡ covered number l (a .frames) p
       adds-nothing p true w = ap (λ (b : Bool). b || pieces.covers number l (pieceIn frame) p) (all p w) ∙ sym (all p w)
       adds-nothing p false w =
-          ap₂ (λ (f v : Bool). covered number l (a .frames) p || f && v) (fitting-frame number l frame fit .1) w ∙ or-false (covered number l (a .frames) p)
+          ap₂ (λ (f v : Bool). covered number l (a .frames) p || f && v) (fitting-frame number l frame fit .1) w
+          ∙ or-false (covered number l (a .frames) p)
 
       nothing-changes : takenFrame (receptionOf a) frame ≡ receptionOf a
       nothing-changes =
@@ -121,9 +130,11 @@ module _ (number l : ℕ) (file : List ℕ) (ok : wrongLength l ≡ false) where
           let h = holds-fitting a in
           frame-taken (receptionOf a) frame (f .0 .0) (f .0 .1)
           ∙ all-of-it (taken (receptionOf a) (pieceIn frame)) (receptionOf a)
-          (same-reception number l file (λ p. covered number l (a .frames) p || pieces.covers number l (pieceIn frame) p) (covered number l (a .frames))
+          (same-reception number l file (λ p. covered number l (a .frames) p || pieces.covers number l (pieceIn frame) p)
+          (covered number l (a .frames))
           (taken (receptionOf a) (pieceIn frame)) (receptionOf a)
-          (taken-holds number l file ok (covered number l (a .frames)) (receptionOf a) h (pieceIn frame) (λ _. agree)) h (λ p _. adds-nothing p (inPiece frame p) refl))
+          (taken-holds number l file ok (covered number l (a .frames)) (receptionOf a) h (pieceIn frame) (λ _. agree)) h
+          (λ p _. adds-nothing p (inPiece frame p) refl))
           (taken-beyond (receptionOf a) (h .map-bytes) (pieceIn frame))
 
   -- a frame of the sequence that fits agrees, and what it covers is covered

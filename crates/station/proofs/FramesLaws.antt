@@ -34,32 +34,36 @@ taken-by-pieces s (frame ∷ frames) = taken-by-pieces (takenFrame s frame) fram
     by (accepted p) e = ap (λ (t : Reception). pieces.takenAll t (piecesIn frames)) (frame-taken s frame p e)
     by (refused n) e = ap (λ (t : Reception). pieces.takenAll t (piecesIn frames)) (frame-leaves s frame n e)
 
--- covered by accepted frames
+-- covered by accepted frames: by the answer to one, and by the pieces that come after it
+abbrev accepted-or-later : List ℕ → List (List ℕ) → ℕ → Answer ℕ → Reception → Bool
+accepted-or-later frame frames p answer t = isAccepted answer && inPiece frame p || pieces.coveredIn t (piecesIn frames) p
+
 pub covered-by-pieces : (s : Reception) (frames : List (List ℕ)) (p : ℕ) → coveredIn s frames p ≡ pieces.coveredIn s (piecesIn frames) p
 covered-by-pieces s [] p = refl
 covered-by-pieces s (frame ∷ frames) p =
-    ap (λ (b : Bool). isAccepted (takingFrame s frame) && inPiece frame p || b) (covered-by-pieces (takenFrame s frame) frames p) ∙ by (readPiece frame) refl
+    ap (λ (b : Bool). isAccepted (takingFrame s frame) && inPiece frame p || b) (covered-by-pieces (takenFrame s frame) frames p)
+    ∙ by (readPiece frame) refl
   where
     by : (x : Answer framed.Piece) → readPiece frame ≡ x
-        → (isAccepted (takingFrame s frame) && inPiece frame p || pieces.coveredIn (takenFrame s frame) (piecesIn frames) p) ≡ pieces.coveredIn s (pieceBefore x frame (piecesIn frames)) p
-    by (accepted q) e =
-        ap₂ (λ (a : Answer ℕ) (t : Reception). isAccepted a && inPiece frame p || pieces.coveredIn t (piecesIn frames) p) (frame-accepted s frame q e) (frame-taken s frame q e)
-    by (refused n) e =
-        ap₂ (λ (a : Answer ℕ) (t : Reception). isAccepted a && inPiece frame p || pieces.coveredIn t (piecesIn frames) p) (frame-refused s frame n e) (frame-leaves s frame n e)
+        → accepted-or-later frame frames p (takingFrame s frame) (takenFrame s frame) ≡ pieces.coveredIn s (pieceBefore x frame (piecesIn frames)) p
+    by (accepted q) e = ap₂ (accepted-or-later frame frames p) (frame-accepted s frame q e) (frame-taken s frame q e)
+    by (refused n) e = ap₂ (accepted-or-later frame frames p) (frame-refused s frame n e) (frame-leaves s frame n e)
 
 module _ (number l : ℕ) where
-  -- covered by frames that fit
+  -- covered by frames that fit, likewise
+  abbrev fitting-or-later : List ℕ → List (List ℕ) → ℕ → Answer framed.Piece → Bool
+  fitting-or-later frame frames p x =
+      (isAccepted x && pieces.fits number l (pieceIn frame)) && inPiece frame p || pieces.covered number l (piecesIn frames) p
+
   pub fitting-by-pieces : (frames : List (List ℕ)) (p : ℕ) → covered number l frames p ≡ pieces.covered number l (piecesIn frames) p
   fitting-by-pieces [] p = refl
   fitting-by-pieces (frame ∷ frames) p =
       ap (λ (b : Bool). fitsFile number l frame && inPiece frame p || b) (fitting-by-pieces frames p) ∙ by (readPiece frame) refl
     where
       by : (x : Answer framed.Piece) → readPiece frame ≡ x
-          → (fitsFile number l frame && inPiece frame p || pieces.covered number l (piecesIn frames) p) ≡ pieces.covered number l (pieceBefore x frame (piecesIn frames)) p
-      by (accepted q) e =
-          ap (λ (x : Answer framed.Piece). (isAccepted x && pieces.fits number l (pieceIn frame)) && inPiece frame p || pieces.covered number l (piecesIn frames) p) e
-      by (refused n) e =
-          ap (λ (x : Answer framed.Piece). (isAccepted x && pieces.fits number l (pieceIn frame)) && inPiece frame p || pieces.covered number l (piecesIn frames) p) e
+          → fitting-or-later frame frames p (readPiece frame) ≡ pieces.covered number l (pieceBefore x frame (piecesIn frames)) p
+      by (accepted q) e = ap (fitting-or-later frame frames p) e
+      by (refused n) e = ap (fitting-or-later frame frames p) e
 
   module _ (file : List ℕ) where
     -- agreeing

@@ -5,5 +5,6 @@ pub mod ExportLaws
 pub mod FramesLaws
 pub mod OnlyOne
 pub mod Demand1
+pub mod AtBoundary
 pub mod Demand2
 pub mod Demand3

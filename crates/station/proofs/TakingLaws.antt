@@ -54,4 +54,5 @@ module _ (s : Reception) (frame : List ℕ) where
       → TakesFrame s frame r map buffer
   takes-piece p bytes r map buffer e b t =
       let same = frame-accepted p e in
-      rw same (another (record { number = p .number; offset = p .offset; bytes = bytes }) (pieceIn frame) r map buffer (piece-is p bytes (read-is frame p e) b) t)
+      rw same (another (record { number = p .number; offset = p .offset; bytes = bytes }) (pieceIn frame) r map buffer
+      (piece-is p bytes (read-is frame p e) b) t)

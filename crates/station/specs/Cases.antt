@@ -1,7 +1,7 @@
 -- The worked cases of 01, "Both sides of the line", that are to be proved: one list, about the definitions that the promises cite.
 -- Assumes nothing.
 use mathlib.Core.Path.{_≡_}
-use mathlib.Core.List.{List, [], _∷_, _++_}
+use mathlib.Core.List.{List, [], _∷_}
 use Prim.Native.Nat.{ℕ}
 use lib.ListN.{length, drop, replicate}
 use Rattle.reason.specs.Answer.{accepted, refused}

@@ -5,7 +5,7 @@
 use mathlib.Core.Path.{_≡_}
 use mathlib.Core.Logic.{_⊎_}
 use mathlib.Core.List.{List}
-use Prim.Native.Nat.{ℕ}
+use Prim.Native.Nat.{ℕ, _≤_}
 use lib.ListN.{length}
 use Rattle.reason.specs.Answer.{Answer, accepted, refused, outcome, Wrote}
 use Rattle.reason.specs.Order.{Check, First, NoneHolds}
@@ -27,12 +27,18 @@ use Rattle.record.specs.Reading.{recordedIn, recordAnswer}
 use Rattle.record.specs.Loading.{loadingChecks, Loads}
 use Rattle.station.specs.Taking.{pieceIn, frameChecks, TakesFrame}
 
+-- how many numbered reasons there are
+abbrev pub lastReason : ℕ
+lastReason = 15
+
 -- Demand 1 of one operation, for one input. `checks` are its reasons in their order, and `value` what it answers if none holds.
 -- `promise r left` is the promise of its function, r being what it answers and `left` what it leaves of what it was lent; `means`
 -- gives the paper's number and values for each answer.
 pub record Answers {R A L : Type 0} (checks : List Check) (value : A) (means : R → Answer A) (lent : L) (promise : R → L → Type 0) : Type 0 where
   -- every input gets an answer: a reason holds first, or none holds
   pub answered : ((n : ℕ) × First n checks) ⊎ NoneHolds checks
+  -- what holds is one of the numbered reasons
+  pub numbered : (n : ℕ) → First n checks → (1 ≤ n) × (n ≤ lastReason)
   -- a reason is given exactly when it holds first
   pub refuses-if : (r : R) (left : L) → promise r left → (n : ℕ) → First n checks → means r ≡ refused n
   pub refuses-only-if : (r : R) (left : L) → promise r left → (n : ℕ) → means r ≡ refused n → First n checks

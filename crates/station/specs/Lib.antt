@@ -5,6 +5,7 @@ pub mod Exports
 pub mod Sequences
 pub mod Stations
 pub mod Demand1
+pub mod AtBoundary
 pub mod Demand2
 pub mod Demand3
 pub mod Cases

@@ -9,43 +9,33 @@ use Rattle.reception.specs.Reception.{Reception}
 use Rattle.station.proofs.TakingLaws.{takes-no-piece, takes-piece}
 use Rattle.station.proofs.take.Statement.{statement}
 use Rattle.station.proofs.take.Tie as tie
-use Rattle.station.proofs.take.Reads as reads
-use Rattle.station.proofs.take.Lts as lts
-use Rattle.frame.proofs.piece_of.Reads as piece-of-reads
-use Rattle.frame.proofs.read_piece.Reads as read-piece-reads
-use Rattle.reception.proofs.take.Reads as take-reads
 
--- src/lib.rt:14:9
 read-piece-requires : tie.Need-read-piece-requires
 read-piece-requires c κs = search needs
 
--- src/lib.rt:16:29
 enum-known-read : tie.Need-enum-known-read
 enum-known-read c = search needs
 
--- src/lib.rt:17:17
 piece-of-requires : tie.Need-piece-of-requires
 piece-of-requires c κs = search needs
 
--- src/lib.rt:18:13
 take-requires : tie.Need-take-requires
 take-requires c κs = search needs
 
--- src/lib.rt:20:28
 enum-known-read-2 : tie.Need-enum-known-read-2
 enum-known-read-2 c = search needs
 
--- src/lib.rt:10:1
 same-length : tie.Need-same-length
 same-length c = search needs
 
--- src/lib.rt:10:1
 same-length-2 : tie.Need-same-length-2
 same-length-2 c = search needs
 
 -- the reception that is lent, and what reading the frame answered
 abbrev R : tie.After-read → Reception
-R c = let a = c .before .before .before .before .before .before .args in record { number = a .number; length = a .length; map = now (a .map); buffer = now (a .buffer) }
+R c =
+    let a = c .before .before .before .before .before .before .args in
+    record { number = a .number; length = a .length; map = now (a .map); buffer = now (a .buffer) }
 
 is-read : (c : tie.After-read) → readPiece (now (c .before .before .before .before .before .before .args .frame)) ≡ accepted (c .read .given .0 .0)
 is-read c = sym (c .before .before .read-piece .ensures) ∙ ap pieceAnswer (c .read .given .1)
@@ -56,15 +46,16 @@ returns c =
     let o = t .before .before .before in
     let r = o .before .before in
     let a = r .before .before .before .before .before .before .args in
-    takes-piece (R r) (now (a .frame)) (r .read .given .0 .0) (now (o .piece-of .result)) (t .take .result) (t .take .last .1 .1 .0) (t .take .last .1 .1 .1 .0)
+    takes-piece (R r) (now (a .frame)) (r .read .given .0 .0) (now (o .piece-of .result)) (t .take .result) (t .take .last .1 .1 .0)
+    (t .take .last .1 .1 .1 .0)
     (is-read r) (o .piece-of .ensures) (t .take .ensures)
 
--- src/lib.rt:10:1
 returns-2 : tie.Need-returns-2
 returns-2 c =
     let r = c .before in
     let a = r .before .before .before .before .before .before .args in
-    takes-no-piece (record { number = a .number; length = a .length; map = now (a .map); buffer = now (a .buffer) }) (now (a .frame)) (r .read2 .given .0 .0)
+    takes-no-piece (record { number = a .number; length = a .length; map = now (a .map); buffer = now (a .buffer) }) (now (a .frame))
+    (r .read2 .given .0 .0)
     (sym (r .before .before .read-piece .ensures) ∙ ap pieceAnswer (r .read2 .given .1))
 
 pub take-spec : {M : Type 1} → statement M

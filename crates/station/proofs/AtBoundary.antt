@@ -1,0 +1,77 @@
+-- Demand 1 at the boundary, proved: one law for all functions, and for each the theorem of its operation's order.
+-- Assumes nothing.
+use mathlib.Core.Path.{_≡_, refl, sym, ap, _∙_}
+use mathlib.Core.Bool.{true}
+use mathlib.Core.Logic.{_⊎_, inl, inr}
+use mathlib.Core.List.{List}
+use Prim.Native.Nat.{ℕ, suc}
+use native.Mathlib.Omega.{arith}
+use Rattle.reason.specs.Answer.{Answer, accepted, refused, leaving}
+use Rattle.reason.specs.Order.{Check, First, NoneHolds, Exactly}
+use Rattle.ax25.specs.Head.{headChecks}
+use Rattle.frame.specs.Piece.{pieceChecks, pieceOrder}
+use Rattle.frame.proofs.InOrder.{read-piece-in-order}
+use Rattle.reception.specs.Opening.{openingChecks}
+use Rattle.reception.specs.Joining.{joiningChecks}
+use Rattle.reception.specs.Listing.{listingChecks}
+use Rattle.reception.proofs.InOrder.{open-in-order, join-in-order, list-in-order}
+use Rattle.request.specs.Reading.{requestChecks, requestOrder}
+use Rattle.request.specs.Writing.{fillChecks, startChecks}
+use Rattle.request.proofs.InOrder.{read-request-in-order, write-fill-in-order, write-start-in-order}
+use Rattle.record.specs.Saving.{savingChecks}
+use Rattle.record.specs.Loading.{loadingChecks}
+use Rattle.record.proofs.InOrder.{save-in-order, load-in-order}
+use Rattle.station.specs.Taking.{frameChecks}
+use Rattle.station.specs.Boundary.{code, Exported}
+use Rattle.station.specs.Exports as out
+use Rattle.station.specs.AtBoundary.{Returns, AtBoundary}
+use Rattle.station.proofs.Demand1.{some-or-none, inTable, in-table, take-in-order}
+
+module _ {A L : Type 0} (checks : List Check) (value : A) (answer : Answer A) (made : A → L) (lent : L) (table : inTable checks ≡ true)
+    (order : Exactly checks value answer) where
+  -- what is returned where a reason holds first, and where none does
+  reason : (n : ℕ) → First n checks → code answer ≡ n
+  reason n first = ap code (order .refuses-if n first)
+
+  none : NoneHolds checks → code answer ≡ 0
+  none holds = ap code (order .accepts-if holds)
+
+  zero : code answer ≡ 0 → NoneHolds checks
+  zero e = by (some-or-none checks)
+    where
+      by : ((n : ℕ) × First n checks) ⊎ NoneHolds checks → NoneHolds checks
+      by (inl first) = absurd (omega (arith, reason (first .0) (first .1), e, in-table checks table (first .0) (first .1) .0))
+      by (inr holds) = holds
+
+  refuses : (n : ℕ) → code answer ≡ suc n → answer ≡ refused (suc n)
+  refuses n = by answer
+    where
+      by : (x : Answer A) → code x ≡ suc n → x ≡ refused (suc n)
+      by (accepted a) e = absurd (omega (arith, e))
+      by (refused m) e = ap refused e
+
+  returns : Returns checks lent (Exported answer made lent)
+  returns = record {
+    zero-if = λ r left p holds. p .returns ∙ none holds;
+    zero-only-if = λ r left p e. zero (sym (p .returns) ∙ e);
+    reason-if = λ r left p n first. p .returns ∙ reason n first;
+    reason-only-if = λ r left p n e. order .refuses-only-if (suc n) (refuses n (sym (p .returns) ∙ e));
+    leaves = λ r left p n e. p .leaves ∙ ap (leaving made lent) (refuses n (sym (p .returns) ∙ e));
+  }
+
+pub at-boundary : AtBoundary
+unfolding headChecks pieceChecks requestChecks
+at-boundary = record {
+  station-open = λ l lent. returns (openingChecks l (lent .map) (lent .buffer)) _ _ _ lent refl (open-in-order l (lent .map) (lent .buffer));
+  station-take = λ number l frame lent. let s = out.lentTo number l lent in returns (frameChecks s frame) _ _ _ lent refl (take-in-order s frame);
+  station-join = λ number l t lent. let s = out.lentTo number l lent in returns (joiningChecks s t) _ _ _ lent refl (join-in-order s t);
+  station-list = λ l map place lent. returns (listingChecks l map place) _ _ _ lent refl (list-in-order l map place);
+  station-save = λ s lent. returns (savingChecks s (lent .target)) _ _ _ lent refl (save-in-order s (lent .target));
+  station-load = λ saved lent. returns (loadingChecks saved (lent .map) (lent .buffer)) _ _ _ lent refl
+      (load-in-order saved (lent .map) (lent .buffer));
+  station-piece = λ frame lent. returns (pieceOrder frame) _ _ _ lent refl (read-piece-in-order frame);
+  station-write-request = λ w place lent. returns (fillChecks w place (lent .target)) _ _ _ lent refl (write-fill-in-order w place (lent .target));
+  station-write-start = λ head number lent. returns (startChecks head lent) _ _ _ lent refl (write-start-in-order head number lent);
+  station-read-request = λ frame lent. returns (requestOrder frame) _ _ _ lent refl (read-request-in-order frame);
+  station-hole = λ frame index lent. returns (requestOrder frame) _ _ _ lent refl (read-request-in-order frame);
+}

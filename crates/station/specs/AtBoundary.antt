@@ -1,0 +1,46 @@
+-- Demand 1 at the boundary to a host program: a function returns 0 exactly if no reason holds, and else the number of the reason that
+-- holds first; then every number and every byte that it was lent is as it was.
+-- Assumes nothing.
+use mathlib.Core.Path.{_≡_}
+use mathlib.Core.List.{List}
+use Prim.Native.Nat.{ℕ, suc}
+use Rattle.reason.specs.Order.{Check, First, NoneHolds}
+use Rattle.ax25.specs.declared.Head.{Head}
+use Rattle.frame.specs.Piece.{pieceOrder}
+use Rattle.reception.specs.declared.Hole.{Hole}
+use Rattle.reception.specs.Reception.{Reception}
+use Rattle.reception.specs.Opening.{openingChecks}
+use Rattle.reception.specs.Joining.{joiningChecks}
+use Rattle.reception.specs.Listing.{listingChecks}
+use Rattle.request.specs.Reading.{requestOrder}
+use Rattle.request.specs.Writing.{Wanted, fillChecks, startChecks}
+use Rattle.record.specs.Saving.{savingChecks}
+use Rattle.record.specs.Loading.{loadingChecks}
+use Rattle.station.specs.Taking.{frameChecks}
+use Rattle.station.specs.Exports as out
+
+-- One function, for one input: `checks` are the reasons of its operation in their order, and `promise r left` is its promise, r being
+-- what it returns and `left` what it leaves of what it was lent.
+pub record Returns {L : Type 0} (checks : List Check) (lent : L) (promise : ℕ → L → Type 0) : Type 0 where
+  pub zero-if : (r : ℕ) (left : L) → promise r left → NoneHolds checks → r ≡ 0
+  pub zero-only-if : (r : ℕ) (left : L) → promise r left → r ≡ 0 → NoneHolds checks
+  pub reason-if : (r : ℕ) (left : L) → promise r left → (n : ℕ) → First n checks → r ≡ n
+  pub reason-only-if : (r : ℕ) (left : L) → promise r left → (n : ℕ) → r ≡ suc n → First (suc n) checks
+  pub leaves : (r : ℕ) (left : L) → promise r left → (n : ℕ) → r ≡ suc n → left ≡ lent
+
+-- Every function of the boundary that can refuse.
+pub record AtBoundary : Type 0 where
+  pub station-open : (l : ℕ) (lent : out.Space) → Returns (openingChecks l (lent .map) (lent .buffer)) lent (out.OpensOut l lent)
+  pub station-take : (number l : ℕ) (frame : List ℕ) (lent : out.Counted)
+      → Returns (frameChecks (out.lentTo number l lent) frame) lent (out.TakesOut number l frame lent)
+  pub station-join : (number l : ℕ) (t : Reception) (lent : out.Counted)
+      → Returns (joiningChecks (out.lentTo number l lent) t) lent (out.JoinsOut number l t lent)
+  pub station-list : (l : ℕ) (map : List ℕ) (place : ℕ) (lent : Hole) → Returns (listingChecks l map place) lent (out.ListsOut l map place lent)
+  pub station-save : (s : Reception) (lent : out.Sized) → Returns (savingChecks s (lent .target)) lent (out.SavesOut s lent)
+  pub station-load : (saved : List ℕ) (lent : Reception) → Returns (loadingChecks saved (lent .map) (lent .buffer)) lent (out.LoadsOut saved lent)
+  pub station-piece : (frame : List ℕ) (lent : out.PieceNumbers) → Returns (pieceOrder frame) lent (out.PieceOut frame lent)
+  pub station-write-request : (w : Wanted) (place : ℕ) (lent : out.Listing)
+      → Returns (fillChecks w place (lent .target)) lent (out.FillsOut w place lent)
+  pub station-write-start : (head : Head) (number : ℕ) (lent : List ℕ) → Returns (startChecks head lent) lent (out.StartsOut head number lent)
+  pub station-read-request : (frame : List ℕ) (lent : out.RequestNumbers) → Returns (requestOrder frame) lent (out.RequestOut frame lent)
+  pub station-hole : (frame : List ℕ) (index : ℕ) (lent : Hole) → Returns (requestOrder frame) lent (out.HoleOut frame index lent)
