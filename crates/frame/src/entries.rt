@@ -2,6 +2,7 @@
 use super::CHECK_LENGTH;
 use super::Entry;
 use super::EntryRead;
+use super::HEADER_AT;
 use ax25::Head;
 use header::HeaderRead;
 ghost use mathlib.Core.Path.{_≡_};
@@ -9,13 +10,11 @@ ghost use Rattle.reason.specs.Order.{firstOf};
 ghost use Rattle.ax25.specs.Information.{informationOf};
 ghost use Rattle.frame.specs.Entry.{flagsAllowed, headerWhole, entryChecks, entryFields, entryAnswer, headerPart};
 
-// How many bytes stand before the file header; the information of an entry with an empty header; where
-// the header starts in a frame, and how many bytes a frame with an empty header has.
+// How many bytes stand before the file header; the information of an entry with an empty header, and how
+// many bytes its frame has.
 const BEFORE_HEADER: usize = 17;
 
 const LEAST: usize = 19;
-
-const HEADER_AT: usize = 33;
 
 const NO_HEADER: usize = 35;
 

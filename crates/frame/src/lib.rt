@@ -22,6 +22,9 @@ ghost use Rattle.frame.specs.Entry.{entryAnswer, readEntry, headerBytes,
 // Where the bytes of a piece start in its frame: behind the head and the nine header bytes.
 pub const DATA_AT: usize = 25;
 
+// Where the file header of an entry starts in its frame: behind the head and the bytes up to time new.
+pub const HEADER_AT: usize = 33;
+
 // How many check bytes stand at the end of the information.
 const CHECK_LENGTH: usize = 2;
 

@@ -10,7 +10,8 @@ use Rattle.reason.specs.Answer.{Answer, accepted, refused, leaving}
 use Rattle.reason.specs.Order.{Check, First, NoneHolds, Exactly}
 use Rattle.ax25.specs.Head.{headChecks}
 use Rattle.frame.specs.Piece.{pieceChecks, pieceOrder}
-use Rattle.frame.proofs.InOrder.{read-piece-in-order}
+use Rattle.frame.specs.Entry.{entryChecks, entryOrder}
+use Rattle.frame.proofs.InOrder.{read-piece-in-order, read-entry-in-order}
 use Rattle.reception.specs.Opening.{openingChecks}
 use Rattle.reception.specs.Joining.{joiningChecks}
 use Rattle.reception.specs.Listing.{listingChecks}
@@ -60,7 +61,7 @@ module _ {A L : Type 0} (checks : List Check) (value : A) (answer : Answer A) (m
   }
 
 pub at-boundary : AtBoundary
-unfolding headChecks pieceChecks requestChecks
+unfolding headChecks pieceChecks entryChecks requestChecks
 at-boundary = record {
   station-open = λ l lent. returns (openingChecks l (lent .map) (lent .buffer)) _ _ _ lent refl (open-in-order l (lent .map) (lent .buffer));
   station-take = λ number l frame lent. let s = out.lentTo number l lent in returns (frameChecks s frame) _ _ _ lent refl (take-in-order s frame);
@@ -70,6 +71,8 @@ at-boundary = record {
   station-load = λ saved lent. returns (loadingChecks saved (lent .map) (lent .buffer)) _ _ _ lent refl
       (load-in-order saved (lent .map) (lent .buffer));
   station-piece = λ frame lent. returns (pieceOrder frame) _ _ _ lent refl (read-piece-in-order frame);
+  station-entry = λ frame lent. returns (entryOrder frame) _ _ _ lent refl (read-entry-in-order frame);
+  station-header = λ frame lent. returns (entryOrder frame) _ _ _ lent refl (read-entry-in-order frame);
   station-write-request = λ w place lent. returns (fillChecks w place (lent .target)) _ _ _ lent refl (write-fill-in-order w place (lent .target));
   station-write-start = λ head number lent. returns (startChecks head lent) _ _ _ lent refl (write-start-in-order head number lent);
   station-read-request = λ frame lent. returns (requestOrder frame) _ _ _ lent refl (read-request-in-order frame);

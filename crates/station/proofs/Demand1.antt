@@ -36,7 +36,8 @@ use Rattle.record.specs.Loading.{loadingChecks, loading, loadedMap, loadedBuffe
 use Rattle.record.proofs.InOrder.{save-in-order, load-in-order}
 use Rattle.station.specs.Taking.{pieceIn, frameChecks, takingFrame}
 use Rattle.station.specs.Boundary.{code}
-use Rattle.station.specs.Demand1.{lastReason, Answers, nothing, Lent, in-lent, Demand1}
+use Rattle.station.specs.Demand1.{lastReason, Answers, nothing, Demand1}
+use Rattle.station.specs.Lent.{Lent, receptionIn}
 
 -- the order of taking a frame in
 pub take-in-order : (s : Reception) (frame : List ℕ) → Exactly (frameChecks s frame) (newIn s (ofPiece (pieceIn frame))) (takingFrame s frame)
@@ -89,9 +90,9 @@ both-kept answer f g lent left n e m b =
 -- .. in adding an offer
 adds : (number l : ℕ) (lent : Lent) (o : Offer) (checks : List Check) (value : ℕ) (answer : Answer ℕ) → inTable checks ≡ true
     → Exactly checks value answer
-    → let s = in-lent number l lent in Answers checks value addedAnswer lent (λ r left. Adds s o answer r (left .map) (left .buffer))
+    → let s = receptionIn number l lent in Answers checks value addedAnswer lent (λ r left. Adds s o answer r (left .map) (left .buffer))
 adds number l lent o checks value answer table order =
-    let s = in-lent number l lent in
+    let s = receptionIn number l lent in
     by-order checks value addedAnswer lent (λ r left. Adds s o answer r (left .map) (left .buffer)) answer table order (λ r left p. p .answers)
     (λ r left p n e. both-kept answer (λ k. mapWith s o) (λ k. bufferWith s o) lent left n e (p .leaves-map) (p .leaves-buffer))
 
@@ -135,11 +136,11 @@ demand-1 = record {
   reads-piece = λ frame. reads _ _ _ (readPiece frame) refl (read-piece-in-order frame);
   reads-entry = λ frame. reads _ _ _ (readEntry frame) refl (read-entry-in-order frame);
   reads-request = λ frame. reads _ _ _ (readRequest frame) refl (read-request-in-order frame);
-  takes = λ number l lent frame. let s = in-lent number l lent in adds number l lent _ _ _ (takingFrame s frame) refl (take-in-order s frame);
+  takes = λ number l lent frame. let s = receptionIn number l lent in adds number l lent _ _ _ (takingFrame s frame) refl (take-in-order s frame);
   opens = λ l lent. let answer = opening l (lent .map) (lent .buffer) in
       by-order _ _ outcome lent _ answer refl (open-in-order l (lent .map) (lent .buffer)) (λ r left p. p .answers)
       (λ r left p n e. both-kept answer _ _ lent left n e (p .leaves-map) (p .leaves-buffer));
-  joins = λ number l lent t. let s = in-lent number l lent in adds number l lent _ _ _ (joining s t) refl (join-in-order s t);
+  joins = λ number l lent t. let s = receptionIn number l lent in adds number l lent _ _ _ (joining s t) refl (join-in-order s t);
   lists = λ l map place. reads _ _ _ (listing l map place) refl (list-in-order l map place);
   fills = λ w place target. writes _ _ filledAnswer target (filling w place target) _ refl (write-fill-in-order w place target);
   starts = λ head number target. let made = starting head number target in

@@ -29,7 +29,7 @@ use Rattle.request.specs.Request.{flagsOf}
 use Rattle.request.specs.Writing.{filledAnswer, Fills, starting}
 use Rattle.station.specs.Boundary.{code, Exported}
 use Rattle.station.specs.AddressNumber.{addressNumber, addressOf}
-use Rattle.station.specs.Exports.{OpensOut, Counted, countedWith, Sized, SavesOut, LoadsOut, pieceNumbers, headTold, Listing, FillsOut, StartsOut, requestNumbers}
+use Rattle.station.specs.Exports.{OpensOut, Counted, countedWith, Sized, SavesOut, LoadsOut, pieceNumbers, headTold, WrittenRequest, FillsOut, StartsOut, requestNumbers}
 
 -- the promise, where the answer is known: one law, and its two cases
 module _ {A L : Type 0} (answer : Answer A) (made : A → L) (lent left : L) where
@@ -108,7 +108,7 @@ pub saved-out : (s : Reception) (r : Saved) {target left : List ℕ} {told : Ans
 saved-out s r {n = n} {n′ = n′} p e l = written-out with-size n n′ p e l
 
 -- .. and `write_start`: both for the addresses that two numbers tell
-abbrev with-target : Written → List ℕ → Listing
+abbrev with-target : Written → List ℕ → WrittenRequest
 with-target t target = record { count = t .count; end = t .end; target = target }
 
 same-code : {A B : Type 0} (f : A → B) (made : Answer A) → code (telling f made) ≡ code made

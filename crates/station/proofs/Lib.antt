@@ -2,6 +2,7 @@ pub mod Cases
 pub mod TakingLaws
 pub mod AddressLaws
 pub mod ExportLaws
+pub mod EntryExportLaws
 pub mod FramesLaws
 pub mod OnlyOne
 pub mod Demand1

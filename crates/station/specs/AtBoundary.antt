@@ -7,6 +7,7 @@ use Prim.Native.Nat.{ℕ, suc}
 use Rattle.reason.specs.Order.{Check, First, NoneHolds}
 use Rattle.ax25.specs.declared.Head.{Head}
 use Rattle.frame.specs.Piece.{pieceOrder}
+use Rattle.frame.specs.Entry.{entryOrder}
 use Rattle.reception.specs.declared.Hole.{Hole}
 use Rattle.reception.specs.Reception.{Reception}
 use Rattle.reception.specs.Opening.{openingChecks}
@@ -17,7 +18,9 @@ use Rattle.request.specs.Writing.{Wanted, fillChecks, startChecks}
 use Rattle.record.specs.Saving.{savingChecks}
 use Rattle.record.specs.Loading.{loadingChecks}
 use Rattle.station.specs.Taking.{frameChecks}
+use Rattle.station.specs.Lent.{Lent}
 use Rattle.station.specs.Exports as out
+use Rattle.station.specs.EntryExports as entry
 
 -- One function, for one input: `checks` are the reasons of its operation in their order, and `promise r left` is its promise, r being
 -- what it returns and `left` what it leaves of what it was lent.
@@ -30,7 +33,7 @@ pub record Returns {L : Type 0} (checks : List Check) (lent : L) (promise : ℕ 
 
 -- Every function of the boundary that can refuse.
 pub record AtBoundary : Type 0 where
-  pub station-open : (l : ℕ) (lent : out.Space) → Returns (openingChecks l (lent .map) (lent .buffer)) lent (out.OpensOut l lent)
+  pub station-open : (l : ℕ) (lent : Lent) → Returns (openingChecks l (lent .map) (lent .buffer)) lent (out.OpensOut l lent)
   pub station-take : (number l : ℕ) (frame : List ℕ) (lent : out.Counted)
       → Returns (frameChecks (out.lentTo number l lent) frame) lent (out.TakesOut number l frame lent)
   pub station-join : (number l : ℕ) (t : Reception) (lent : out.Counted)
@@ -39,7 +42,9 @@ pub record AtBoundary : Type 0 where
   pub station-save : (s : Reception) (lent : out.Sized) → Returns (savingChecks s (lent .target)) lent (out.SavesOut s lent)
   pub station-load : (saved : List ℕ) (lent : Reception) → Returns (loadingChecks saved (lent .map) (lent .buffer)) lent (out.LoadsOut saved lent)
   pub station-piece : (frame : List ℕ) (lent : out.PieceNumbers) → Returns (pieceOrder frame) lent (out.PieceOut frame lent)
-  pub station-write-request : (w : Wanted) (place : ℕ) (lent : out.Listing)
+  pub station-entry : (frame : List ℕ) (lent : entry.EntryNumbers) → Returns (entryOrder frame) lent (entry.EntryOut frame lent)
+  pub station-header : (frame : List ℕ) (lent : entry.HeaderNumbers) → Returns (entryOrder frame) lent (entry.HeaderOut frame lent)
+  pub station-write-request : (w : Wanted) (place : ℕ) (lent : out.WrittenRequest)
       → Returns (fillChecks w place (lent .target)) lent (out.FillsOut w place lent)
   pub station-write-start : (head : Head) (number : ℕ) (lent : List ℕ) → Returns (startChecks head lent) lent (out.StartsOut head number lent)
   pub station-read-request : (frame : List ℕ) (lent : out.RequestNumbers) → Returns (requestOrder frame) lent (out.RequestOut frame lent)

@@ -26,6 +26,7 @@ use Rattle.record.specs.Saving.{savingChecks, savedAnswer, Saves}
 use Rattle.record.specs.Reading.{recordedIn, recordAnswer}
 use Rattle.record.specs.Loading.{loadingChecks, Loads}
 use Rattle.station.specs.Taking.{pieceIn, frameChecks, TakesFrame}
+use Rattle.station.specs.Lent.{Lent, receptionIn}
 
 -- how many numbered reasons there are
 abbrev pub lastReason : ℕ
@@ -52,15 +53,6 @@ pub record Answers {R A L : Type 0} (checks : List Check) (value : A) (means : R
 abbrev pub nothing : Unit {0}
 nothing = tt {0}
 
--- a lent map and a lent buffer
-pub record Lent : Type 0 where
-  pub map : List ℕ
-  pub buffer : List ℕ
-
--- the reception of a file in them
-abbrev pub in-lent : ℕ → ℕ → Lent → Reception
-in-lent number l lent = record { number = number; length = l; map = lent .map; buffer = lent .buffer }
-
 -- Every operation of "Numbered reasons", with 01's words for its order.
 pub record Demand1 : Type 0 where
   -- "Order in a frame: 1 (below 16), 2, 3, 4, 7 (over 255), 1 (information), 6, 5, 14, 7 (no data), 8": a piece, and an entry
@@ -70,13 +62,13 @@ pub record Demand1 : Type 0 where
   pub reads-request : (frame : List ℕ)
       → Answers (requestOrder frame) (requestOf frame) requestAnswer nothing (λ r left. requestAnswer r ≡ readRequest frame)
   -- "Taking in a piece: the frame's reasons, then 7 (L), 12, 9, 10, 11"
-  pub takes : (number l : ℕ) (lent : Lent) (frame : List ℕ) → let s = in-lent number l lent in
+  pub takes : (number l : ℕ) (lent : Lent) (frame : List ℕ) → let s = receptionIn number l lent in
       Answers (frameChecks s frame) (newIn s (ofPiece (pieceIn frame))) addedAnswer lent (λ r left. TakesFrame s frame r (left .map) (left .buffer))
   -- "Opening: 7, 12"
   pub opens : (l : ℕ) (lent : Lent)
       → Answers (openingChecks l (lent .map) (lent .buffer)) tt outcome lent (λ r left. Opens l (lent .map) (lent .buffer) r (left .map) (left .buffer))
   -- "Joining: 7 and 12 (each for either reception), 9, 11"
-  pub joins : (number l : ℕ) (lent : Lent) (t : Reception) → let s = in-lent number l lent in
+  pub joins : (number l : ℕ) (lent : Lent) (t : Reception) → let s = receptionIn number l lent in
       Answers (joiningChecks s t) (newIn s (ofReception t)) addedAnswer lent (λ r left. Joins s t r (left .map) (left .buffer))
   -- "Listing: 7, 12, 15"
   pub lists : (l : ℕ) (map : List ℕ) (place : ℕ)

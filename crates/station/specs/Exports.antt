@@ -23,16 +23,12 @@ use Rattle.record.specs.Record.{recordOf}
 use Rattle.record.specs.Saving.{saving}
 use Rattle.record.specs.Loading.{loading, loaded}
 use Rattle.station.specs.Taking.{pieceIn, takingFrame}
+use Rattle.station.specs.Lent.{Lent}
 use Rattle.station.specs.Boundary.{Exported}
 use Rattle.station.specs.AddressNumber.{addressNumber, addressOf}
 
--- a map and a buffer
-pub record Space : Type 0 where
-  pub map : List ℕ
-  pub buffer : List ℕ
-
 -- `station_open`
-abbrev pub OpensOut : ℕ → Space → ℕ → Space → Type 0
+abbrev pub OpensOut : ℕ → Lent → ℕ → Lent → Type 0
 OpensOut l lent =
     Exported (opening l (lent .map) (lent .buffer)) (λ u. record { map = openedMap l (lent .map); buffer = openedBuffer l (lent .buffer) }) lent
 
@@ -109,13 +105,13 @@ abbrev pub headTold : ℕ → ℕ → Head
 headTold destination source = record { destination = addressOf destination; source = addressOf source }
 
 -- how many holes a request lists, the end of the last, and the target
-pub record Listing : Type 0 where
+pub record WrittenRequest : Type 0 where
   pub count : ℕ
   pub end : ℕ
   pub target : List ℕ
 
 -- `station_write_request`
-abbrev pub FillsOut : Wanted → ℕ → Listing → ℕ → Listing → Type 0
+abbrev pub FillsOut : Wanted → ℕ → WrittenRequest → ℕ → WrittenRequest → Type 0
 FillsOut w place lent =
     Exported (filling w place (lent .target)) (λ x. record { count = x .count; end = x .end; target = putIn (lent .target) 0 (fillFrame w place) }) lent
 

@@ -1,7 +1,9 @@
 pub mod Taking
+pub mod Lent
 pub mod Boundary
 pub mod AddressNumber
 pub mod Exports
+pub mod EntryExports
 pub mod Sequences
 pub mod Stations
 pub mod Demand1

@@ -315,7 +315,7 @@ fn flags_of(asks: Asks) -> u8
 }
 
 // An address as a number.
-fn address_number(a: Address) -> u64
+pub(crate) fn address_number(a: Address) -> u64
     ensures { λ r. ⌜ r ≡ addressNumber a ⌝ }
 {
     let high = a.c4 as u64 + 256 * (a.c5 as u64 + 256 * (a.number as u64));

@@ -31,16 +31,18 @@
 //   map_of         its map, a part of the record                  –                          record, specs/Reading
 //
 // An operation answers its values, or one numbered reason in the order above and then no lent byte has
-// changed; none asks anything of its caller. `boundary.rt` has the same operations for a host program, on
-// numbers and byte slices alone (specs/Exports). Below these stand `ax25` (addresses and heads), `header`
-// (file headers), `remainder` (the check), `octets` (numbers and runs of bytes), `positions` (what a map's
-// bits mean) and `reason` (answers, and reasons in their order); above them `report`, the hole program's text.
+// changed; none asks anything of its caller. `boundary.rt` and `entry_boundary.rt` have the same operations
+// for a host program, on numbers and byte slices alone (specs/Exports, specs/EntryExports). Below these
+// stand `ax25` (addresses and heads), `header` (file headers), `remainder` (the check), `octets` (numbers
+// and runs of bytes), `positions` (what a map's bits mean) and `reason` (answers, and reasons in their
+// order); above them `report`, the hole program's text.
 //
 // What all of it adds up to is the customer's three demands: they stand in `specs/Demand1.antt`,
 // `specs/Demand2.antt` and `specs/Demand3.antt`, and are proved in `proofs/` under the same names; the
 // worked cases of 01 stand in `specs/Cases.antt`. That no second answer meets a promise is in
 // `proofs/OnlyOne.antt` of each crate.
 mod boundary;
+mod entry_boundary;
 
 use frame::PieceRead;
 pub use frame::header_bytes;
