@@ -1,4 +1,4 @@
--- The customer's first demand, in its words (DEMANDS 1): "Every input gets an answer: frames, requests, records and lent buffers of all
+-- The customer's first demand, in its words: "Every input gets an answer: frames, requests, records and lent buffers of all
 -- lengths and contents. Each refusal is one of our numbered reasons, given exactly when that reason holds first in our order, and
 -- changes no lent byte."
 -- Assumes nothing.

@@ -1,4 +1,4 @@
--- The customer's second demand, in its words (DEMANDS 2): "What is read and written is what AX.25, the PACSAT broadcast protocol and file
+-- The customer's second demand, in its words: "What is read and written is what AX.25, the PACSAT broadcast protocol and file
 -- header papers and our rules define: every frame and record to its fields, and the fields of a request or record to its bytes, so
 -- that reading gives back what was written. Each accepted piece, hole, request and record has the one meaning stated there."
 -- Assumes nothing.

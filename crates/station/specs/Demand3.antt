@@ -1,4 +1,4 @@
--- The customer's third demand, in its words (DEMANDS 3), over frames: what stations that collect one file hold, what joining gives, and
+-- The customer's third demand, in its words, over frames: what stations that collect one file hold, what joining gives, and
 -- what the listed holes are. It speaks of the definitions that the promises of `open`, `take`, `join` and `list` cite.
 -- Assumes nothing.
 use mathlib.Core.Path.{_≡_}
