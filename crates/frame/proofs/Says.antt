@@ -1,16 +1,17 @@
 -- What an accepted frame says: its fields are its bytes at their places, counted from 0 in the whole frame (demand 2).
 -- Assumes nothing.
-use mathlib.Core.Path.{_≡_, sym, ap, _∙_}
-use mathlib.Core.Bool.{true}
-use mathlib.Core.List.{List}
-use mathlib.Core.Logic.{⊎-elim}
+use mathlib.Core.Path.{_≡_, sym, ap, ap₂, _∙_}
+use mathlib.Core.Bool.{Bool, true, false, not, _&&_, _||_, or-true, false≢true}
+use mathlib.Core.List.{List, [], _∷_}
+use mathlib.Core.Logic.{inl, inr, ⊎-elim}
 use Prim.Native.Nat.{ℕ, _+_, _-_, _/_, _%_, _≤_, _<_}
 use native.Mathlib.Omega.{arith}
 use lib.Dec.{eqb}
 use lib.ListN.{length, drop, length-drop}
 use lib.Seq.{getD-drop, length-take-le}
-use borrow.Author.Tests.{ltb-false, eqb-true, eqb-false, not-false}
-use Rattle.reason.specs.Answer.{Answer, accepted}
+use borrow.Author.Tests.{ltb-false, eqb-true, eqb-false, eq-eqb, not-false}
+use Rattle.reason.specs.Answer.{Answer, accepted, refused}
+use Rattle.reason.specs.Order.{Check, check, First}
 use Rattle.reason.proofs.Bools.{and-left, and-right, le-or-lt}
 use Rattle.reason.proofs.OrderLaws.{accepted-only-if, both-accept}
 use Rattle.octets.specs.Numbers.{byteAt, numberAt}
@@ -19,14 +20,17 @@ use Rattle.remainder.specs.Check.{checkLength}
 use Rattle.ax25.specs.Head.{headLength, headChecks, headOf}
 use Rattle.ax25.proofs.HeadLaws.{head-says}
 use Rattle.header.specs.Header.{headerLength, headerOf, keepsRules}
+use Rattle.header.specs.Rules.{Rules}
+use Rattle.header.proofs.RulesKept.{kept}
 use Rattle.header.proofs.HeaderLaws.{reads-header, told-length}
 use Rattle.header.proofs.Says.{header-says}
 use Rattle.frame.specs.declared.Piece.{Piece}
 use Rattle.frame.specs.declared.Entry.{Entry}
 use Rattle.ax25.specs.Information.{file, directory, informationOf}
 use Rattle.frame.specs.Piece.{beforeData, pieceChecks, pieceFields, pieceOf, readPiece, pieceData, pieceBytes, bytesRead}
-use Rattle.frame.specs.Entry.{flagsAllowed, headerWhole, headerPart, headerRight, entryChecks, entryFields, entryOf, readEntry, headerBytesRead, headerBytes}
+use Rattle.frame.specs.Entry.{flagsAllowed, headerWhole, headerPart, headerRight, entryChecks, entryFields, entryOrder, entryOf, readEntry, headerBytesRead, headerBytes}
 use Rattle.frame.specs.Says.{PieceSays, EntrySays}
+use Rattle.frame.proofs.InOrder.{read-entry-in-order}
 
 -- a byte and a number of the information, at their places in the frame
 byte-in : (frame : List ℕ) (at : ℕ) → byteAt (informationOf frame) at ≡ byteAt frame (headLength + at)
@@ -105,3 +109,26 @@ entry-says frame e r =
 -- a piece's are 02.)
 pub not-piece-and-entry : (frame : List ℕ) (p : Piece) (e : Entry) → readPiece frame ≡ accepted p → readEntry frame ≡ accepted e → ⊥
 not-piece-and-entry frame p e x y = omega (arith, piece-says frame p x .head .named, entry-says frame e y .head .named)
+
+-- one of the checks with a number holds
+abbrev anyWith : ℕ → List Check → Bool
+anyWith n [] = false
+anyWith n (check b m ∷ checks) = eqb m n && b || anyWith n checks
+
+first-any : (n : ℕ) (checks : List Check) → First n checks → anyWith n checks ≡ true
+first-any n (check b m ∷ checks) (inl f) =
+    ap₂ (λ (x y : Bool). x && y || anyWith n checks) (eq-eqb m n (f .1)) (f .0)
+first-any n (check b m ∷ checks) (inr f) = ap (λ (x : Bool). eqb m n && b || x) (first-any n checks (f .1)) ∙ or-true (eqb m n && b)
+
+eight-is : (frame : List ℕ) → readEntry frame ≡ refused 8 → (not (headerRight (informationOf frame)) || false) ≡ true
+unfolding headChecks entryChecks
+eight-is frame e = first-any 8 (entryOrder frame) (read-entry-in-order frame .refuses-only-if 8 e)
+
+-- An entry is refused 8 only where its header breaks a rule, or something follows it.
+pub eight-says : (frame : List ℕ) → readEntry frame ≡ refused 8
+    → Rules (headerPart (informationOf frame)) (numberAt 4 (informationOf frame) 1)
+    → headerLength (headerPart (informationOf frame)) ≡ length (headerPart (informationOf frame)) → ⊥
+eight-says frame e r l =
+    let i = informationOf frame in
+    let h : headerRight i ≡ true = ap₂ _&&_ (kept (headerPart i) (numberAt 4 i 1) r) (eq-eqb (headerLength (headerPart i)) (length (headerPart i)) l) in
+    false≢true (sym (ap (λ (b : Bool). not b || false) h) ∙ eight-is frame e)

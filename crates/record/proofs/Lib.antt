@@ -8,3 +8,4 @@ pub mod LoadedLaws
 pub mod RoundTrip
 pub mod OnlyOne
 pub mod InOrder
+pub mod Says

@@ -4,3 +4,4 @@ pub mod Reading
 pub mod Loading
 pub mod Inner
 pub mod GivenBack
+pub mod Says

@@ -1,17 +1,20 @@
 -- Demand 1 at the boundary, proved: one law for all functions, and for each the theorem of its operation's order.
 -- Assumes nothing.
 use mathlib.Core.Path.{_≡_, refl, sym, ap, _∙_}
-use mathlib.Core.Bool.{true}
+use mathlib.Core.Bool.{true, false, and-false}
 use mathlib.Core.Logic.{_⊎_, inl, inr}
 use mathlib.Core.List.{List}
-use Prim.Native.Nat.{ℕ, suc}
+use Prim.Native.Nat.{ℕ, suc, _^_, _≤_}
 use native.Mathlib.Omega.{arith}
+use borrow.Author.Tests.{le-ltb}
 use Rattle.reason.specs.Answer.{Answer, accepted, refused, leaving}
 use Rattle.reason.specs.Order.{Check, First, NoneHolds, Exactly}
+use Rattle.ax25.specs.Address.{isWritable}
 use Rattle.ax25.specs.Head.{headChecks}
 use Rattle.frame.specs.Piece.{pieceChecks, pieceOrder}
 use Rattle.frame.specs.Entry.{entryChecks, entryOrder}
 use Rattle.frame.proofs.InOrder.{read-piece-in-order, read-entry-in-order}
+use Rattle.reception.specs.Adding.{Offer, ofPiece, after}
 use Rattle.reception.specs.Opening.{openingChecks}
 use Rattle.reception.specs.Joining.{joiningChecks}
 use Rattle.reception.specs.Listing.{listingChecks}
@@ -22,10 +25,13 @@ use Rattle.request.proofs.InOrder.{read-request-in-order, write-fill-in-order, 
 use Rattle.record.specs.Saving.{savingChecks}
 use Rattle.record.specs.Loading.{loadingChecks}
 use Rattle.record.proofs.InOrder.{save-in-order, load-in-order}
-use Rattle.station.specs.Taking.{frameChecks}
+use Rattle.station.specs.Taking.{pieceIn, frameChecks, takingFrame}
+use Rattle.station.specs.AddressNumber.{addressOf}
 use Rattle.station.specs.Boundary.{code, Exported}
+use Rattle.station.specs.Demand1.{lastReason}
 use Rattle.station.specs.Exports as out
 use Rattle.station.specs.AtBoundary.{Returns, AtBoundary}
+use Rattle.station.proofs.AddressLaws.{address-back}
 use Rattle.station.proofs.Demand1.{some-or-none, inTable, in-table, take-in-order}
 
 module _ {A L : Type 0} (checks : List Check) (value : A) (answer : Answer A) (made : A → L) (lent : L) (table : inTable checks ≡ true)
@@ -51,14 +57,33 @@ module _ {A L : Type 0} (checks : List Check) (value : A) (answer : Answer A) (m
       by (accepted a) e = absurd (omega (arith, e))
       by (refused m) e = ap refused e
 
+  most : code answer ≤ lastReason
+  most = by (some-or-none checks)
+    where
+      by : ((n : ℕ) × First n checks) ⊎ NoneHolds checks → code answer ≤ lastReason
+      by (inl first) = omega (arith, reason (first .0) (first .1), in-table checks table (first .0) (first .1) .1)
+      by (inr holds) = omega (arith, none holds)
+
   returns : Returns checks lent (Exported answer made lent)
   returns = record {
     zero-if = λ r left p holds. p .returns ∙ none holds;
     zero-only-if = λ r left p e. zero (sym (p .returns) ∙ e);
     reason-if = λ r left p n first. p .returns ∙ reason n first;
     reason-only-if = λ r left p n e. order .refuses-only-if (suc n) (refuses n (sym (p .returns) ∙ e));
+    numbered = λ r left p. omega (arith, p .returns, most);
     leaves = λ r left p n e. p .leaves ∙ ap (leaving made lent) (refuses n (sym (p .returns) ∙ e));
   }
+
+-- what is left after an answer, as a reception
+counted-after : (number l : ℕ) (lent left : out.Counted) (o : Offer) (x : Answer ℕ) → left ≡ leaving (out.countedWith (out.lentTo number l lent) o) lent x
+    → out.lentTo number l left ≡ after (out.lentTo number l lent) o x
+counted-after number l lent left o (accepted n) e = ap (out.lentTo number l) e
+counted-after number l lent left o (refused n) e = ap (out.lentTo number l) e
+
+-- no address has the number 255
+too-large : (n : ℕ) → 256 ^ 7 ≤ n → isWritable (addressOf n) ≡ false
+unfolding isWritable addressOf
+too-large n h = simp (le-ltb n (256 ^ 7) h, and-false)
 
 pub at-boundary : AtBoundary
 unfolding headChecks pieceChecks entryChecks requestChecks
@@ -77,4 +102,8 @@ at-boundary = record {
   station-write-start = λ head number lent. returns (startChecks head lent) _ _ _ lent refl (write-start-in-order head number lent);
   station-read-request = λ frame lent. returns (requestOrder frame) _ _ _ lent refl (read-request-in-order frame);
   station-hole = λ frame index lent. returns (requestOrder frame) _ _ _ lent refl (read-request-in-order frame);
+  takes-in = λ number l frame lent left r p.
+      counted-after number l lent left (ofPiece (pieceIn frame)) (takingFrame (out.lentTo number l lent) frame) (p .leaves);
+  address-told-back = address-back;
+  too-large-a-number = too-large;
 }

@@ -7,33 +7,28 @@ use mathlib.Core.List.{List, [], _∷_}
 use Prim.Native.Nat.{ℕ, _≤_}
 use native.Mathlib.Omega.{arith}
 use lib.Dec.{leb}
-use lib.ListN.{length}
 use borrow.Author.Tests.{leb-true}
-use Rattle.reason.specs.Answer.{Answer, accepted, refused, telling, leaving, outcome, Wrote, Writes}
+use Rattle.reason.specs.Answer.{Answer, accepted, refused, telling, leaving, outcome, Writes}
 use Rattle.reason.specs.Order.{Check, check, firstOf, First, NoneHolds, Exactly}
 use Rattle.reason.proofs.Bools.{and-left, and-right}
 use Rattle.reason.proofs.OrderLaws.{not-both, exactly, answered, accepted-only-if}
-use Rattle.octets.specs.Runs.{putIn}
 use Rattle.ax25.specs.Head.{headChecks}
-use Rattle.frame.specs.Piece.{pieceChecks, pieceOrder, pieceOf, readPiece, pieceAnswer}
-use Rattle.frame.specs.Entry.{entryChecks, entryOrder, entryOf, readEntry, entryAnswer}
+use Rattle.frame.specs.Piece.{pieceChecks, readPiece}
+use Rattle.frame.specs.Entry.{entryChecks, readEntry}
 use Rattle.frame.proofs.InOrder.{read-piece-in-order, read-entry-in-order}
 use Rattle.reception.specs.Reception.{Reception}
-use Rattle.reception.specs.Adding.{Offer, ofPiece, ofReception, newIn, mapWith, bufferWith, addedAnswer, Adds}
-use Rattle.reception.specs.Opening.{openingChecks, opening, openedMap, openedBuffer, Opens}
-use Rattle.reception.specs.Joining.{joiningChecks, joining}
-use Rattle.reception.specs.Holes.{holeFrom}
-use Rattle.reception.specs.Listing.{listingChecks, listing, listedAnswer}
-use Rattle.reception.specs.EveryHole.{lastEnd}
+use Rattle.reception.specs.Adding.{Offer, ofPiece, newIn, mapWith, bufferWith, addedAnswer, Adds}
+use Rattle.reception.specs.Opening.{opening}
+use Rattle.reception.specs.Joining.{joining}
+use Rattle.reception.specs.Listing.{listing}
 use Rattle.reception.proofs.InOrder.{open-in-order, join-in-order, list-in-order}
-use Rattle.request.specs.Reading.{requestChecks, requestOrder, requestOf, readRequest, requestAnswer}
-use Rattle.request.specs.Writing.{holesFrom, fillChecks, filling, fillFrame, filledAnswer, startChecks, starting}
+use Rattle.request.specs.Reading.{requestChecks, readRequest}
+use Rattle.request.specs.Writing.{filling, filledAnswer, starting}
 use Rattle.request.proofs.InOrder.{read-request-in-order, write-fill-in-order, write-start-in-order}
-use Rattle.record.specs.Record.{recordOf, recordLength}
-use Rattle.record.specs.Saving.{savingChecks, saving, savedAnswer}
-use Rattle.record.specs.Reading.{recordedIn, recordAnswer}
-use Rattle.record.specs.Loading.{loadingChecks, loading, loadedMap, loadedBuffer, Loads}
-use Rattle.record.proofs.InOrder.{save-in-order, load-in-order}
+use Rattle.record.specs.Saving.{saving, savedAnswer}
+use Rattle.record.specs.Reading.{readRecord, recordAnswer}
+use Rattle.record.specs.Loading.{loading}
+use Rattle.record.proofs.InOrder.{save-in-order, load-in-order, read-record-in-order}
 use Rattle.station.specs.Taking.{pieceIn, frameChecks, takingFrame}
 use Rattle.station.specs.Boundary.{code}
 use Rattle.station.specs.Demand1.{lastReason, Answers, nothing, Demand1}
@@ -147,6 +142,7 @@ demand-1 = record {
       by-order _ _ outcome target _ (telling (λ left. tt {0}) made) refl (done-in-order _ _ made (write-start-in-order head number target))
       (λ r left p. p .answer) (λ r left p n e. p .bytes ∙ kept target made n e);
   saves = λ s target. writes _ _ savedAnswer target (saving s target) _ refl (save-in-order s target);
+  reads-record = λ saved. reads _ _ _ (readRecord saved) refl (read-record-in-order saved);
   loads = λ saved lent. let answer = loading saved (lent .map) (lent .buffer) in
       by-order _ _ recordAnswer lent _ answer refl (load-in-order saved (lent .map) (lent .buffer)) (λ r left p. p .answers)
       (λ r left p n e. both-kept answer _ _ lent left n e (p .leaves-map) (p .leaves-buffer));

@@ -10,7 +10,7 @@ use Rattle.frame.specs.declared.Piece.{Piece}
 use Rattle.frame.specs.declared.Entry.{Entry}
 use Rattle.frame.specs.Piece.{readPiece}
 use Rattle.frame.specs.Entry.{readEntry}
-use Rattle.frame.proofs.Says.{piece-says, entry-says, not-piece-and-entry}
+use Rattle.frame.proofs.Says.{piece-says, entry-says, eight-says, not-piece-and-entry}
 use Rattle.frame.proofs.RoundTrip as piece
 use Rattle.reception.proofs.HoleLaws.{hole-is, hole-first, none-only-if}
 use Rattle.request.specs.declared.Asks.{Asks}
@@ -25,6 +25,7 @@ use Rattle.request.proofs.WholeRun.{whole-run}
 use Rattle.request.proofs.Naming.{names-only-unheld, unheld-is-named-once, held-is-never-named}
 use Rattle.request.proofs.WrittenAgain.{accepted-start-is-written, accepted-list-is-written}
 use Rattle.ax25.proofs.RoundTrip.{written-address-is-read, read-address-is-written}
+use Rattle.record.proofs.Says.{record-says}
 use Rattle.record.proofs.RoundTrip as saved
 use Rattle.station.specs.Demand2.{Demand2}
 
@@ -55,6 +56,7 @@ demand-2 = record {
   piece-is-read = λ p bytes m. (piece.made-piece-is-read p bytes m, piece.made-piece-is-handed-out p bytes m);
   piece-is-made = piece.accepted-piece-is-made;
   entry-says = entry-says;
+  eight-says = eight-says;
   not-piece-and-entry = not-piece-and-entry;
   not-piece-and-request = not-piece-and-request;
   not-entry-and-request = not-entry-and-request;
@@ -74,6 +76,7 @@ demand-2 = record {
   missing-is-named-once = λ w t can. unheld-is-named-once w t (can .addresses) (can .numbered) (can .room) (can .right) (can .mapped);
   held-is-never-named = λ w t can. held-is-never-named w t (can .addresses) (can .numbered) (can .room) (can .right) (can .mapped);
   only-missing-is-named = names-only-unheld;
+  record-says = record-says;
   record-is-loaded = saved.load-after-save;
   record-is-saved = λ r map buffer all x e. (saved.save-after-load r map buffer all x e, saved.saves-after-load r map buffer all x e);
   one-record = saved.one-record;

@@ -1,12 +1,13 @@
 -- The third demand over frames, proved: each of its statements from the same about the pieces among the frames.
 -- Assumes nothing.
 use mathlib.Core.Path.{_≡_, refl, sym, ap, ap₂, _∙_}
-use mathlib.Core.Bool.{Bool, true, false, not, _&&_, _||_, or-true, or-false, false≢true}
+use mathlib.Core.Bool.{Bool, true, false, not, _&&_, _||_, or-assoc, or-true, or-false, false≢true}
 use mathlib.Core.Logic.{inl, inr}
-use mathlib.Core.List.{List, _∷_, _++_}
+use mathlib.Core.List.{List, [], _∷_, _++_}
 use Prim.Native.Nat.{ℕ, _≤_}
 use lib.ListN.{length}
-use Rattle.reason.specs.Answer.{Answer, accepted, refused, isAccepted}
+use Rattle.reason.specs.declared.Outcome.{Outcome}
+use Rattle.reason.specs.Answer.{Answer, accepted, refused, isAccepted, leaving}
 use Rattle.positions.specs.Spans.{count}
 use Rattle.positions.specs.Map.{mapSize}
 use Rattle.positions.proofs.SpanLaws.{in-span, count-same, count-zero}
@@ -14,20 +15,22 @@ use Rattle.frame.specs.declared.Piece as framed
 use Rattle.frame.specs.Piece.{readPiece}
 use Rattle.reception.specs.Reception.{Reception, wrongLength}
 use Rattle.reception.specs.Adding.{ofPiece, after}
-use Rattle.reception.specs.Opening.{opened}
+use Rattle.reception.specs.Opening.{opened, openedMap, openedBuffer, Opens}
 use Rattle.reception.specs.Taking.{taking, taken}
 use Rattle.reception.specs.Joining.{joined}
 use Rattle.reception.specs.Sequences as pieces
 use Rattle.reception.specs.Sequences.{AgreesWith}
 use Rattle.reception.specs.Stations as stations
 use Rattle.reception.specs.Contents.{HoldsOf, itself, beyond}
-use Rattle.reception.proofs.Holding.{told, same-reception, taken-holds}
+use Rattle.reception.proofs.Holding.{told, same-reception, taken-holds, joined-holds}
 use Rattle.reception.proofs.HoleLaws as holes
 use Rattle.reception.proofs.LentSpace.{all-of-it, opened-beyond, taken-beyond}
 use Rattle.reception.proofs.Demand3 as over
+use Rattle.station.specs.Lent.{Lent, receptionIn}
 use Rattle.station.specs.Taking.{pieceIn, takingFrame, takenFrame}
 use Rattle.station.specs.Sequences.{takenFrames, inPiece, coveredIn, fitsFile, covered, Among, AllAgree}
-use Rattle.station.specs.Stations.{Station, fresh, receptionOf, Made}
+use Rattle.station.specs.Stations.{Station, fresh, receptionOf, Made, station, together}
+use Rattle.station.specs.Calls.{Calls, none, more}
 use Rattle.station.specs.Demand3.{Demand3}
 use Rattle.station.proofs.TakingLaws.{frame-refused, frame-accepted, frame-leaves, frame-taken}
 use Rattle.station.proofs.FramesLaws as by
@@ -35,6 +38,14 @@ use Rattle.station.proofs.FramesLaws as by
 -- a property of a reception, by another that is the same
 carry : (P : Reception → Type 0) (s t : Reception) → s ≡ t → P t → P s
 carry P s t e x = rw e x
+
+-- calls of `take`, by their promises
+calls-take : (number l : ℕ) (lent last : Lent) (frames : List (List ℕ)) → Calls number l lent frames last
+    → receptionIn number l last ≡ takenFrames (receptionIn number l lent) frames
+calls-take number l lent u [] (none v) = refl
+calls-take number l u v (w ∷ ws) (more lent left last frame frames r t rest) =
+    calls-take number l left last frames rest
+    ∙ ap (λ (s : Reception). takenFrames s frames) (ap₂ (λ (x y : List ℕ). receptionIn number l (record { map = x; buffer = y })) (t .leaves-map) (t .leaves-buffer))
 
 -- a frame that fits is read as a piece that fits
 fitting-frame : (number l : ℕ) (frame : List ℕ) → fitsFile number l frame ≡ true
@@ -80,6 +91,16 @@ module _ (number l : ℕ) (file : List ℕ) (ok : wrongLength l ≡ false) where
 
   beyond-unchanged : (a : Station number l file) → beyond (receptionOf a) ≡ beyond (fresh a)
   beyond-unchanged a = ap beyond (same a) ∙ over.station-beyond number l file ok (Over a)
+
+  -- any calls of `open` and `take` that meet their promises leave that
+  by-calls : (a : Station number l file) (r : Outcome) (opens last : Lent) → Opens l (a .map) (a .buffer) r (opens .map) (opens .buffer)
+      → Calls number l opens (a .frames) last → receptionIn number l last ≡ receptionOf a
+  by-calls a r opens last o calls =
+      calls-take number l opens last (a .frames) calls
+      ∙ ap (λ (s : Reception). takenFrames s (a .frames))
+      (ap₂ (λ (x y : List ℕ). receptionIn number l (record { map = x; buffer = y }))
+      (o .leaves-map ∙ ap (leaving (λ u. openedMap l (a .map)) (a .map)) (a .opens))
+      (o .leaves-buffer ∙ ap (leaving (λ u. openedBuffer l (a .buffer)) (a .buffer)) (a .opens)))
 
   -- ---- one frame more
   module _ (a : Station number l file) (frame : List ℕ) where
@@ -157,14 +178,16 @@ module _ (number l : ℕ) (file : List ℕ) (ok : wrongLength l ≡ false) where
       (nothing-new a frame fit agree all, nothing-changes a frame fit agree all)
 
   -- ---- joining
+  join-is-both : (a b : Station number l file) → joined (receptionOf a) (receptionOf b) ≡ takenFrames (fresh a) (a .frames ++ b .frames)
+  join-is-both a b =
+      ap₂ joined (same a) (same b)
+      ∙ over.join-is-one-station number l file ok (Over a) (Over b)
+      ∙ sym (by.taken-by-pieces (fresh a) (a .frames ++ b .frames) ∙ ap (pieces.takenAll (fresh a)) (by.pieces-both (a .frames) (b .frames)))
+
   join-is-one-station : (a b c : Station number l file) → c .map ≡ a .map → c .buffer ≡ a .buffer → c .frames ≡ a .frames ++ b .frames
       → joined (receptionOf a) (receptionOf b) ≡ receptionOf c
   join-is-one-station a b c m d f =
-      ap₂ joined (same a) (same b)
-      ∙ over.join-is-one-station number l file ok (Over a) (Over b)
-      ∙ sym (ap₂ (λ (s : Reception) (frames : List (List ℕ)). takenFrames s frames) (ap₂ (opened number l) m d) f
-      ∙ by.taken-by-pieces (fresh a) (a .frames ++ b .frames)
-      ∙ ap (pieces.takenAll (fresh a)) (by.pieces-both (a .frames) (b .frames)))
+      join-is-both a b ∙ sym (ap₂ (λ (s : Reception) (frames : List (List ℕ)). takenFrames s frames) (ap₂ (opened number l) m d) f)
 
   join-is-any-station : (a b c : Station number l file)
       → ((p : ℕ) → covered number l (c .frames) p ≡ (covered number l (a .frames) p || covered number l (b .frames) p))
@@ -184,8 +207,29 @@ module _ (number l : ℕ) (file : List ℕ) (ok : wrongLength l ≡ false) where
   room : (s : Reception) → Made number l file s → mapSize l ≤ length (s .map)
   room s m = over.made-holds number l file ok s (M s m) .1 .map-long
 
+  covered-both : (xs ys : List (List ℕ)) (p : ℕ) → covered number l (xs ++ ys) p ≡ (covered number l xs p || covered number l ys p)
+  covered-both [] ys p = refl
+  covered-both (x ∷ xs) ys p =
+      ap (λ (b : Bool). fitsFile number l x && inPiece x p || b) (covered-both xs ys p)
+      ∙ sym (or-assoc (fitsFile number l x && inPiece x p) (covered number l xs p) (covered number l ys p))
+
+  made-holds : (s : Reception) → Made number l file s → (frames : List (List ℕ)) × HoldsOf number l file (covered number l frames) s
+  made-holds s (station a) = (a .frames, holds-fitting a)
+  made-holds u (together s t m n) =
+      let x = made-holds s m in
+      let y = made-holds t n in (
+        x .0 ++ y .0,
+        told number l file (λ p. covered number l (x .0) p || covered number l (y .0) p) (covered number l (x .0 ++ y .0)) (joined s t)
+            (λ p. sym (covered-both (x .0) (y .0) p))
+            (joined-holds number l file ok (covered number l (x .0)) (covered number l (y .0)) s t (x .1) (y .1)),
+      )
+
   pub demand-3 : Demand3 number l file
   demand-3 = record {
+    by-calls = by-calls;
+    by-join = λ s t r left p.
+        ap₂ (λ (x y : List ℕ). receptionIn (s .number) (s .length) (record { map = x; buffer = y })) (p .leaves-map) (p .leaves-buffer);
+    join-is-both = join-is-both;
     held-exactly = held-exactly;
     accepted-are-fitting = accepted-are-fitting;
     same-coverage = same-coverage;
@@ -195,6 +239,9 @@ module _ (number l : ℕ) (file : List ℕ) (ok : wrongLength l ≡ false) where
     beyond-unchanged = λ a. beyond-unchanged a ∙ opened-beyond number l (a .map) (a .buffer);
     join-is-one-station = join-is-one-station;
     join-is-any-station = join-is-any-station;
+    made-holds = made-holds;
+    stations-are-made = λ a. station a;
+    joins-are-made = λ s t m n. together s t m n;
     join-counts = λ s t m n. over.never-refused number l file ok s t (M s m) (M t n);
     either-order = λ s t m n. over.either-order number l file ok s t (M s m) (M t n);
     any-grouping = λ s t u m n o. over.any-grouping number l file ok s t (M s m) (M t n) u (M u o);
@@ -203,6 +250,7 @@ module _ (number l : ℕ) (file : List ℕ) (ok : wrongLength l ≡ false) where
     fresh-is-neutral = λ s m map buffer bytes opens.
         (over.fresh-second number l file ok s (M s m) map buffer bytes opens, over.fresh-first number l file ok s (M s m) map buffer bytes opens);
     holes-listed = λ s m. holes.all-holes l (s .map) ok (room s m);
+    missing-is-in-a-hole = λ s m. holes.in-a-hole l (s .map);
     first-from-place = λ s m place hole e.
         (let first = holes.hole-first l (s .map) place hole e in (holes.hole-is l (s .map) place hole e, first .0, first .1));
     none-left-is-the-file = λ s m. over.none-left-is-the-file number l file ok s (M s m);

@@ -1,10 +1,13 @@
 pub mod Cases
+pub mod BoundaryCases
+pub mod MoreCases
 pub mod TakingLaws
 pub mod AddressLaws
 pub mod ExportLaws
 pub mod EntryExportLaws
 pub mod FramesLaws
 pub mod OnlyOne
+pub mod Orders
 pub mod Demand1
 pub mod AtBoundary
 pub mod Demand2

@@ -2,10 +2,13 @@
 -- holds first; then every number and every byte that it was lent is as it was.
 -- Assumes nothing.
 use mathlib.Core.Path.{_≡_}
+use mathlib.Core.Bool.{true, false}
 use mathlib.Core.List.{List}
-use Prim.Native.Nat.{ℕ, suc}
+use Prim.Native.Nat.{ℕ, suc, _^_, _≤_}
 use Rattle.reason.specs.Order.{Check, First, NoneHolds}
+use Rattle.ax25.specs.declared.Address.{Address}
 use Rattle.ax25.specs.declared.Head.{Head}
+use Rattle.ax25.specs.Address.{isWritable}
 use Rattle.frame.specs.Piece.{pieceOrder}
 use Rattle.frame.specs.Entry.{entryOrder}
 use Rattle.reception.specs.declared.Hole.{Hole}
@@ -17,8 +20,10 @@ use Rattle.request.specs.Reading.{requestOrder}
 use Rattle.request.specs.Writing.{Wanted, fillChecks, startChecks}
 use Rattle.record.specs.Saving.{savingChecks}
 use Rattle.record.specs.Loading.{loadingChecks}
-use Rattle.station.specs.Taking.{frameChecks}
+use Rattle.station.specs.Taking.{frameChecks, takenFrame}
+use Rattle.station.specs.AddressNumber.{addressNumber, addressOf}
 use Rattle.station.specs.Lent.{Lent}
+use Rattle.station.specs.Demand1.{lastReason}
 use Rattle.station.specs.Exports as out
 use Rattle.station.specs.EntryExports as entry
 
@@ -29,9 +34,11 @@ pub record Returns {L : Type 0} (checks : List Check) (lent : L) (promise : ℕ 
   pub zero-only-if : (r : ℕ) (left : L) → promise r left → r ≡ 0 → NoneHolds checks
   pub reason-if : (r : ℕ) (left : L) → promise r left → (n : ℕ) → First n checks → r ≡ n
   pub reason-only-if : (r : ℕ) (left : L) → promise r left → (n : ℕ) → r ≡ suc n → First (suc n) checks
+  -- what is returned is 0 or one of the numbered reasons
+  pub numbered : (r : ℕ) (left : L) → promise r left → r ≤ lastReason
   pub leaves : (r : ℕ) (left : L) → promise r left → (n : ℕ) → r ≡ suc n → left ≡ lent
 
--- Every function of the boundary that can refuse.
+-- Every function of the boundary that can refuse; and what else is known there.
 pub record AtBoundary : Type 0 where
   pub station-open : (l : ℕ) (lent : Lent) → Returns (openingChecks l (lent .map) (lent .buffer)) lent (out.OpensOut l lent)
   pub station-take : (number l : ℕ) (frame : List ℕ) (lent : out.Counted)
@@ -49,3 +56,9 @@ pub record AtBoundary : Type 0 where
   pub station-write-start : (head : Head) (number : ℕ) (lent : List ℕ) → Returns (startChecks head lent) lent (out.StartsOut head number lent)
   pub station-read-request : (frame : List ℕ) (lent : out.RequestNumbers) → Returns (requestOrder frame) lent (out.RequestOut frame lent)
   pub station-hole : (frame : List ℕ) (index : ℕ) (lent : Hole) → Returns (requestOrder frame) lent (out.HoleOut frame index lent)
+  -- `station_take` leaves the reception that `take` leaves
+  pub takes-in : (number l : ℕ) (frame : List ℕ) (lent left : out.Counted) (r : ℕ) → out.TakesOut number l frame lent r left
+      → out.lentTo number l left ≡ takenFrame (out.lentTo number l lent) frame
+  -- an address that can be written is told back by its number; a number of more than seven bytes tells none
+  pub address-told-back : (a : Address) → isWritable a ≡ true → addressOf (addressNumber a) ≡ a
+  pub too-large-a-number : (n : ℕ) → 256 ^ 7 ≤ n → isWritable (addressOf n) ≡ false

@@ -4,11 +4,12 @@
 -- Assumes nothing.
 use mathlib.Core.Path.{_≡_}
 use mathlib.Core.Logic.{_⊎_}
-use mathlib.Core.List.{List}
+use mathlib.Core.Bool.{not}
+use mathlib.Core.List.{List, [], _∷_}
 use Prim.Native.Nat.{ℕ, _≤_}
 use lib.ListN.{length}
 use Rattle.reason.specs.Answer.{Answer, accepted, refused, outcome, Wrote}
-use Rattle.reason.specs.Order.{Check, First, NoneHolds}
+use Rattle.reason.specs.Order.{Check, check, First, NoneHolds}
 use Rattle.ax25.specs.declared.Head.{Head}
 use Rattle.frame.specs.Piece.{pieceOrder, pieceOf, readPiece, pieceAnswer}
 use Rattle.frame.specs.Entry.{entryOrder, entryOf, readEntry, entryAnswer}
@@ -23,7 +24,7 @@ use Rattle.request.specs.Reading.{requestOrder, requestOf, readRequest, request
 use Rattle.request.specs.Writing.{Wanted, holesFrom, fillChecks, filledAnswer, Fills, startChecks, starting}
 use Rattle.record.specs.Record.{recordLength}
 use Rattle.record.specs.Saving.{savingChecks, savedAnswer, Saves}
-use Rattle.record.specs.Reading.{recordedIn, recordAnswer}
+use Rattle.record.specs.Reading.{isRecord, recordedIn, readRecord, recordAnswer}
 use Rattle.record.specs.Loading.{loadingChecks, Loads}
 use Rattle.station.specs.Taking.{pieceIn, frameChecks, TakesFrame}
 use Rattle.station.specs.Lent.{Lent, receptionIn}
@@ -63,10 +64,12 @@ pub record Demand1 : Type 0 where
       → Answers (requestOrder frame) (requestOf frame) requestAnswer nothing (λ r left. requestAnswer r ≡ readRequest frame)
   -- "Taking in a piece: the frame's reasons, then 7 (L), 12, 9, 10, 11"
   pub takes : (number l : ℕ) (lent : Lent) (frame : List ℕ) → let s = receptionIn number l lent in
-      Answers (frameChecks s frame) (newIn s (ofPiece (pieceIn frame))) addedAnswer lent (λ r left. TakesFrame s frame r (left .map) (left .buffer))
+      Answers (frameChecks s frame) (newIn s (ofPiece (pieceIn frame))) addedAnswer lent
+      (λ r left. TakesFrame s frame r (left .map) (left .buffer))
   -- "Opening: 7, 12"
   pub opens : (l : ℕ) (lent : Lent)
-      → Answers (openingChecks l (lent .map) (lent .buffer)) tt outcome lent (λ r left. Opens l (lent .map) (lent .buffer) r (left .map) (left .buffer))
+      → Answers (openingChecks l (lent .map) (lent .buffer)) tt outcome lent
+      (λ r left. Opens l (lent .map) (lent .buffer) r (left .map) (left .buffer))
   -- "Joining: 7 and 12 (each for either reception), 9, 11"
   pub joins : (number l : ℕ) (lent : Lent) (t : Reception) → let s = receptionIn number l lent in
       Answers (joiningChecks s t) (newIn s (ofReception t)) addedAnswer lent (λ r left. Joins s t r (left .map) (left .buffer))
@@ -83,7 +86,9 @@ pub record Demand1 : Type 0 where
   -- "Saving: 7, 12"
   pub saves : (s : Reception) (target : List ℕ)
       → Answers (savingChecks s target) (recordLength (s .length)) savedAnswer target (Saves s target)
-  -- "Loading: 13, 12"
+  -- "Loading: 13, 12"; reading a record alone has the first of them
+  pub reads-record : (saved : List ℕ)
+      → Answers (check (not (isRecord saved)) 13 ∷ []) (recordedIn saved) recordAnswer nothing (λ r left. recordAnswer r ≡ readRecord saved)
   pub loads : (saved : List ℕ) (lent : Lent)
       → Answers (loadingChecks saved (lent .map) (lent .buffer)) (recordedIn saved) recordAnswer lent
       (λ r left. Loads saved (lent .map) (lent .buffer) r (left .map) (left .buffer))

@@ -8,17 +8,20 @@ use mathlib.Core.List.{List}
 use Prim.Native.Nat.{ℕ, _^_, _≤_, _<_}
 use lib.ListN.{length, getD, take, drop}
 use Rattle.reason.specs.Answer.{accepted, refused}
-use Rattle.octets.specs.Numbers.{AllBytes}
+use Rattle.octets.specs.Numbers.{numberAt, AllBytes}
 use Rattle.octets.specs.Runs.{putIn}
 use Rattle.positions.specs.Map.{held, mapSize}
 use Rattle.ax25.specs.declared.Address.{Address}
 use Rattle.ax25.specs.declared.Role.{Role}
 use Rattle.ax25.specs.declared.Head.{Head}
 use Rattle.ax25.specs.Address.{isWritable, addressBytes, readAddress, writeAddress}
+use Rattle.ax25.specs.Information.{informationOf}
+use Rattle.header.specs.Header.{headerLength}
+use Rattle.header.specs.Rules.{Rules}
 use Rattle.frame.specs.declared.Piece.{Piece}
 use Rattle.frame.specs.declared.Entry.{Entry}
 use Rattle.frame.specs.Piece.{readPiece, pieceBytes}
-use Rattle.frame.specs.Entry.{readEntry}
+use Rattle.frame.specs.Entry.{headerPart, readEntry}
 use Rattle.frame.specs.Made as pieces
 use Rattle.frame.specs.Says.{PieceSays, EntrySays}
 use Rattle.reception.specs.declared.Hole.{Hole}
@@ -38,7 +41,8 @@ use Rattle.request.specs.Says.{RequestSays}
 use Rattle.record.specs.declared.Recorded.{Recorded}
 use Rattle.record.specs.Record.{recordOf, recordLength}
 use Rattle.record.specs.Saving.{saving}
-use Rattle.record.specs.Reading.{numberIn, lengthIn, mapIn, bytesIn, isRecord}
+use Rattle.record.specs.Reading.{numberIn, lengthIn, mapIn, bytesIn, isRecord, readRecord}
+use Rattle.record.specs.Says.{RecordSays}
 use Rattle.record.specs.Loading.{loading, loaded}
 use Rattle.record.specs.GivenBack.{GivesBack}
 
@@ -64,7 +68,11 @@ pub record Demand2 : Type 0 where
       → (readPiece (pieces.pieceFrame p bytes) ≡ accepted p) × (pieceBytes (pieces.pieceFrame p bytes) ≡ bytes)
   pub piece-is-made : (frame : List ℕ) (p : Piece) → AllBytes frame → readPiece frame ≡ accepted p → pieces.pieceFrame p (pieceBytes frame) ≡ frame
   -- ---- Directory entries: both addresses, all fields, and the value of each mandatory item and of item 12.
+  -- Reason 8 says that the header breaks a rule, or that something follows it.
   pub entry-says : (frame : List ℕ) (e : Entry) → readEntry frame ≡ accepted e → EntrySays frame e
+  pub eight-says : (frame : List ℕ) → readEntry frame ≡ refused 8
+      → Rules (headerPart (informationOf frame)) (numberAt 4 (informationOf frame) 1)
+      → headerLength (headerPart (informationOf frame)) ≡ length (headerPart (informationOf frame)) → ⊥
   -- ---- No frame has two meanings, whichever operation reads it.
   pub not-piece-and-entry : (frame : List ℕ) (p : Piece) (e : Entry) → readPiece frame ≡ accepted p → readEntry frame ≡ accepted e → ⊥
   pub not-piece-and-request : (frame : List ℕ) (p : Piece) (r : Request) → readPiece frame ≡ accepted p → readRequest frame ≡ accepted r → ⊥
@@ -94,19 +102,22 @@ pub record Demand2 : Type 0 where
       → (target : List ℕ) → frameLength 0 ≤ length target → starting (r .head) (r .number) target ≡ accepted (putIn target 0 frame)
   -- Repeated from 0, each time from the end returned, until 15, requests list every hole exactly once, 1 to 49 in each. They name every
   -- position that is missing exactly once, and none that is held: a set bit means held.
-  pub whole-run : (w : Wanted) (target : List ℕ) → CanSend w target → Whole w target (sentFrom (w .length) w target 0) (placeAfter (w .length) w target 0)
+  pub whole-run : (w : Wanted) (target : List ℕ) → CanSend w target
+      → Whole w target (sentFrom (w .length) w target 0) (placeAfter (w .length) w target 0)
   pub missing-is-named-once : (w : Wanted) (target : List ℕ) → CanSend w target → (p : ℕ) → p < w .length → held (w .map) p ≡ false
       → naming (sentFrom (w .length) w target 0) p ≡ 1
   pub held-is-never-named : (w : Wanted) (target : List ℕ) → CanSend w target → (p : ℕ) → held (w .map) p ≡ true
       → naming (sentFrom (w .length) w target 0) p ≡ 0
   pub only-missing-is-named : (w : Wanted) (place : ℕ) (target : List ℕ) (x : Written) → filling w place target ≡ accepted x → w .number < 256 ^ 4
       → (p : ℕ) → names (holesOf (sent w place target x)) p ≡ true → (p < w .length) × (held (w .map) p ≡ false)
-  -- ---- Records: what is saved is loaded, in number, length, held positions and their bytes; an accepted record is what saving gives for
-  -- what it says, and so the only one of its content.
+  -- ---- Records: an accepted record says its bytes at their places; what is saved is loaded, in number, length, held positions and their
+  -- bytes; an accepted record is what saving gives for what it says, and so the only one of its content.
+  pub record-says : (saved : List ℕ) (x : Recorded) → readRecord saved ≡ accepted x → RecordSays saved x
   pub record-is-loaded : (s : Reception) (target : List ℕ) (n : ℕ) → s .number < 256 ^ 4 → saving s target ≡ accepted n
       → (take n (putIn target 0 (recordOf s)) ≡ recordOf s)
       × ((map buffer : List ℕ) → shortSpace (s .length) map buffer ≡ false
-      → (loading (recordOf s) map buffer ≡ accepted (record { number = s .number; length = s .length })) × GivesBack s (loaded (recordOf s) map buffer))
+      → (loading (recordOf s) map buffer ≡ accepted (record { number = s .number; length = s .length }))
+      × GivesBack s (loaded (recordOf s) map buffer))
   pub record-is-saved : (saved map buffer : List ℕ) → AllBytes saved → (x : Recorded) → loading saved map buffer ≡ accepted x
       → (recordOf (loaded saved map buffer) ≡ saved)
       × ((target : List ℕ) → recordLength (lengthIn saved) ≤ length target → saving (loaded saved map buffer) target ≡ accepted (length saved))

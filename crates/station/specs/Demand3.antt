@@ -4,28 +4,38 @@
 use mathlib.Core.Path.{_≡_}
 use mathlib.Core.Bool.{true, false, not, _&&_, _||_}
 use mathlib.Core.List.{List, _++_}
-use Prim.Native.Nat.{ℕ, _≤_}
+use Prim.Native.Nat.{ℕ, _≤_, _<_}
 use lib.ListN.{length, take, drop}
 use Rattle.reason.specs.Answer.{accepted, refused}
+use Rattle.reason.specs.declared.Outcome.{Outcome}
 use Rattle.octets.specs.Numbers.{AllBytes}
 use Rattle.positions.specs.Spans.{count}
 use Rattle.positions.specs.Map.{held, mapSize}
+use Rattle.reception.specs.declared.Added.{Added}
 use Rattle.reception.specs.declared.Hole.{Hole}
 use Rattle.reception.specs.Reception.{Reception}
-use Rattle.reception.specs.Opening.{opening, opened}
-use Rattle.reception.specs.Joining.{joining, joined}
+use Rattle.reception.specs.Opening.{opening, opened, Opens}
+use Rattle.reception.specs.Joining.{joining, joined, Joins}
 use Rattle.reception.specs.Sequences.{AgreesWith}
 use Rattle.reception.specs.Holes.{IsHole}
 use Rattle.reception.specs.Listing.{listing}
-use Rattle.reception.specs.EveryHole.{listedFrom, AllHoles}
+use Rattle.reception.specs.EveryHole.{listedFrom, AllHoles, InHole}
 use Rattle.reception.specs.Contents.{HoldsOf, itself, beyond}
+use Rattle.station.specs.Lent.{Lent, receptionIn}
 use Rattle.station.specs.Taking.{pieceIn, takingFrame, takenFrame}
-use Rattle.station.specs.Sequences.{coveredIn, fitsFile, covered, Among}
+use Rattle.station.specs.Sequences.{takenFrames, coveredIn, fitsFile, covered, Among}
 use Rattle.station.specs.Stations.{Station, fresh, receptionOf, Made}
+use Rattle.station.specs.Calls.{Calls}
 
 -- For a file with a number and a length that can be opened. A `Station` has lent space of any sufficient length, and takes in any
 -- sequence of frames of which every piece that fits number and length agrees with the file.
 pub record Demand3 (number l : ℕ) (file : List ℕ) : Type 0 where
+  -- What is said below of `receptionOf` and `joined` holds of the functions: any calls of `open`, of `take` for each frame, and of `join`
+  -- leave just that, by their promises.
+  pub by-calls : (a : Station number l file) (r : Outcome) (opens last : Lent) → Opens l (a .map) (a .buffer) r (opens .map) (opens .buffer)
+      → Calls number l opens (a .frames) last → receptionIn number l last ≡ receptionOf a
+  pub by-join : (s t : Reception) (r : Added) (left : Lent) → Joins s t r (left .map) (left .buffer)
+      → receptionIn (s .number) (s .length) left ≡ joined s t
   -- "A position is then held exactly if an accepted piece covered it, held bytes are the file's, the others are zero." So are the
   -- spare bits of the map.
   pub held-exactly : (a : Station number l file) → HoldsOf number l file (coveredIn (fresh a) (a .frames)) (receptionOf a)
@@ -49,11 +59,16 @@ pub record Demand3 (number l : ℕ) (file : List ℕ) : Type 0 where
       → beyond (receptionOf a) ≡ record { map = drop (mapSize l) (a .map); buffer = drop l (a .buffer) }
   -- "Joining the two receptions gives, byte for byte, what one station would hold after both sequences": one that was lent what the
   -- first was lent, in all of that; and one that was lent anything else, in the map and the buffer of the file.
+  pub join-is-both : (a b : Station number l file) → joined (receptionOf a) (receptionOf b) ≡ takenFrames (fresh a) (a .frames ++ b .frames)
   pub join-is-one-station : (a b c : Station number l file) → c .map ≡ a .map → c .buffer ≡ a .buffer → c .frames ≡ a .frames ++ b .frames
       → joined (receptionOf a) (receptionOf b) ≡ receptionOf c
   pub join-is-any-station : (a b c : Station number l file)
       → ((p : ℕ) → covered number l (c .frames) p ≡ (covered number l (a .frames) p || covered number l (b .frames) p))
       → itself (joined (receptionOf a) (receptionOf b)) ≡ itself (receptionOf c)
+  -- Every reception made in this way, by joining too, holds what some frames cover.
+  pub made-holds : (s : Reception) → Made number l file s → (frames : List (List ℕ)) × HoldsOf number l file (covered number l frames) s
+  pub stations-are-made : (a : Station number l file) → Made number l file (receptionOf a)
+  pub joins-are-made : (s t : Reception) → Made number l file s → Made number l file t → Made number l file (joined s t)
   -- A join among receptions made in this way is never refused, and counts the positions that only the second holds.
   pub join-counts : (s t : Reception) → Made number l file s → Made number l file t
       → joining s t ≡ accepted (count (λ p. held (t .map) p && not (held (s .map) p)) 0 l)
@@ -71,6 +86,7 @@ pub record Demand3 (number l : ℕ) (file : List ℕ) : Type 0 where
   -- "The holes listed are exactly the longest missing runs, ascending": asked from 0, then each time from the end of the last, until
   -- 15. Every position that is missing stands in one, and what is answered from any place is the first that starts there or later.
   pub holes-listed : (s : Reception) → Made number l file s → AllHoles l (s .map) (listedFrom l l (s .map) 0)
+  pub missing-is-in-a-hole : (s : Reception) → Made number l file s → (p : ℕ) → p < l → held (s .map) p ≡ false → InHole l (s .map) p
   pub first-from-place : (s : Reception) → Made number l file s → (place : ℕ) (hole : Hole) → listing l (s .map) place ≡ accepted hole
       → IsHole l (s .map) hole × (place ≤ hole .start) × ((other : Hole) → IsHole l (s .map) other → place ≤ other .start → hole .start ≤ other .start)
   -- "with none left, the buffer is the file."

@@ -6,8 +6,12 @@ pub mod Exports
 pub mod EntryExports
 pub mod Sequences
 pub mod Stations
+pub mod Calls
+pub mod Orders
 pub mod Demand1
 pub mod AtBoundary
 pub mod Demand2
 pub mod Demand3
 pub mod Cases
+pub mod MoreCases
+pub mod BoundaryCases

@@ -41,8 +41,8 @@
 // `specs/Demand2.antt` and `specs/Demand3.antt`, and are proved in `proofs/` under the same names; the
 // worked cases of 01 stand in `specs/Cases.antt`. That no second answer meets a promise is in
 // `proofs/OnlyOne.antt` of each crate.
-mod boundary;
-mod entry_boundary;
+pub mod boundary;
+pub mod entry_boundary;
 
 use frame::PieceRead;
 pub use frame::header_bytes;

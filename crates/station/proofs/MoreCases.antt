@@ -1,0 +1,75 @@
+-- The further cases hold, most of them by computation.
+-- Assumes nothing.
+use mathlib.Core.Path.{_≡_, refl}
+use mathlib.Core.Bool.{false≢true}
+use mathlib.Core.List.{List, [], _∷_, _++_}
+use mathlib.Core.Logic.{inl, inr}
+use Prim.Native.Nat.{ℕ, zero, suc}
+use native.Mathlib.Omega.{arith}
+use lib.ListN.{replicate}
+use Rattle.reason.specs.Answer.{accepted}
+use Rattle.octets.specs.Numbers.{AllBytes}
+use Rattle.reason.specs.Order.{firstOf}
+use Rattle.octets.specs.Runs.{putIn}
+use Rattle.remainder.specs.Remainder.{withBit, withBits, messageBits, remainderOf}
+use Rattle.remainder.specs.Check.{checkRight}
+use Rattle.positions.specs.Spans.{every, count, first}
+use Rattle.positions.specs.Map.{bit, held, bitsFrom, mapOf}
+use Rattle.ax25.specs.Address.{isName, isWritable, addressAt, wellFormed}
+use Rattle.ax25.specs.Head.{headChecks, headOf, headBytes}
+use Rattle.frame.specs.Piece.{pieceChecks, pieceFields, readPiece}
+use Rattle.reception.specs.Opening.{opening}
+use Rattle.reception.specs.Listing.{listing}
+use Rattle.station.specs.Taking.{takingFrame}
+use Rattle.reception.specs.Sequences.{AgreesWith}
+use Rattle.station.specs.Taking.{pieceIn}
+use Rattle.station.specs.Sequences.{AllAgree, Among}
+use Rattle.station.specs.Stations.{Station}
+use Rattle.station.specs.Cases.{front}
+use Rattle.station.specs.MoreCases.{file, heard, MoreCases}
+
+bytes-of-three : AllBytes (replicate 3 0xFF)
+bytes-of-three zero = omega arith
+bytes-of-three (suc zero) = omega arith
+bytes-of-three (suc (suc zero)) = omega arith
+bytes-of-three (suc (suc (suc i))) = omega arith
+
+-- what `front` says is the file's; the other frames do not fit
+front-agrees : AgreesWith file (pieceIn front)
+unfolding withBit withBits messageBits remainderOf headBytes pieceFields
+front-agrees zero h = refl
+front-agrees (suc zero) h = refl
+front-agrees (suc (suc zero)) h = refl
+front-agrees (suc (suc (suc zero))) h = refl
+front-agrees (suc (suc (suc (suc i)))) h = absurd (omega (arith, h))
+
+heard-agree : AllAgree 7 20 file heard
+unfolding firstOf putIn withBit withBits messageBits remainderOf checkRight isName isWritable addressAt wellFormed headChecks headOf headBytes pieceChecks pieceFields readPiece
+heard-agree =
+    (λ _. front-agrees, (λ fit. absurd (false≢true fit), (λ fit. absurd (false≢true fit), (λ fit. absurd (false≢true fit), (λ _. front-agrees, tt)))))
+
+opens-twenty : opening 20 (replicate 3 0xFF) (replicate 20 0xFF) ≡ accepted tt
+unfolding firstOf opening
+opens-twenty = refl
+
+-- the station
+abbrev example : Station 7 20 file
+example = record { map = replicate 3 0xFF; buffer = replicate 20 0xFF; bytes = bytes-of-three; opens = opens-twenty; frames = heard; agree = heard-agree }
+
+among-any : (frame : List ℕ) (before behind : List (List ℕ)) → Among frame (before ++ frame ∷ behind)
+among-any frame [] behind = inl refl
+among-any frame (f ∷ before) behind = inr (among-any frame before behind)
+
+pub more-cases : MoreCases
+unfolding firstOf putIn withBit withBits messageBits remainderOf checkRight isName isWritable addressAt wellFormed headChecks headOf headBytes pieceChecks pieceFields readPiece every count first bit held bitsFrom mapOf opening listing takingFrame
+more-cases = record {
+  a-station = (example, (refl, refl));
+  among-any = among-any;
+  differing-leaves = refl;
+  refused-covers-nothing = refl;
+  in-their-order = refl;
+  frame-before-length = refl;
+  length-before-number = refl;
+  at-65536 = refl;
+  hole-of-16 = refl;
+}

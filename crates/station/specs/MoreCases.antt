@@ -1,0 +1,45 @@
+-- Worked cases beyond those that 01 marks to be proved: what the definitions of the station must also say.
+-- Assumes nothing.
+use mathlib.Core.Path.{_≡_}
+use mathlib.Core.Bool.{false}
+use mathlib.Core.List.{List, [], _∷_, _++_}
+use Prim.Native.Nat.{ℕ}
+use lib.ListN.{set, replicate}
+use Rattle.reason.specs.Answer.{accepted, refused}
+use Rattle.ax25.specs.Examples.{va3sfl, uosat5}
+use Rattle.frame.specs.Made.{pieceFrame}
+use Rattle.reception.specs.Listing.{listing}
+use Rattle.station.specs.Taking.{takingFrame, takenFrame}
+use Rattle.station.specs.Sequences.{coveredIn, Among}
+use Rattle.station.specs.Stations.{Station, receptionOf}
+use Rattle.station.specs.Cases.{frameAt, twenty, longestFile, front}
+
+-- a file, and what a station hears of it: a piece, one of another file, one that ends beyond the file, one that was damaged on its
+-- way, and the first again
+abbrev pub file : List ℕ
+file = 0x41 ∷ 0x42 ∷ 0x43 ∷ 0x44 ∷ replicate 16 0x45
+
+abbrev pub ofAnother : List ℕ
+ofAnother = pieceFrame (record { head = record { destination = va3sfl; source = uosat5 11 }; number = 8; kind = 0; offset = 0 }) (0x00 ∷ [])
+
+abbrev pub heard : List (List ℕ)
+heard = front ∷ ofAnother ∷ frameAt 19 (0x00 ∷ 0x00 ∷ []) ∷ set front 25 0x00 ∷ front ∷ []
+
+-- a piece that differs at 3, which `front` holds
+abbrev pub differing : List ℕ
+differing = frameAt 3 (0x45 ∷ 0x46 ∷ [])
+
+pub record MoreCases : Type 0 where
+  -- there is such a station, and it holds what `front` covers
+  pub a-station : (a : Station 7 20 file) × ((a .frames ≡ heard) × (receptionOf a .map ≡ 0x0F ∷ 0x00 ∷ 0x00 ∷ []))
+  pub among-any : (frame : List ℕ) (before behind : List (List ℕ)) → Among frame (before ++ frame ∷ behind)
+  -- a refused frame stores and covers nothing, and frames are taken in their order
+  pub differing-leaves : takenFrame (twenty (front ∷ [])) differing ≡ twenty (front ∷ [])
+  pub refused-covers-nothing : coveredIn (twenty []) (front ∷ differing ∷ []) 4 ≡ false
+  pub in-their-order : twenty (front ∷ differing ∷ []) .map ≡ 0x0F ∷ 0x00 ∷ 0x00 ∷ []
+  -- the frame's reasons come before 7 (L), and that before 9
+  pub frame-before-length : takingFrame (record { number = 7; length = 0; map = []; buffer = [] }) [] ≡ refused 1
+  pub length-before-number : takingFrame (record { number = 8; length = 0; map = []; buffer = [] }) front ≡ refused 7
+  -- the offset has three bytes; start and length of a hole are told apart
+  pub at-65536 : takingFrame longestFile (frameAt 65536 (0x41 ∷ [])) ≡ refused 10
+  pub hole-of-16 : listing 20 (twenty (front ∷ []) .map) 0 ≡ accepted (record { start = 4; length = 16 })
