@@ -84,9 +84,18 @@ pub(crate) fn lent(bytes: [u8; 400], size: u32, c: Cells) -> Bytes {
     Bytes { bytes, size }
 }
 
+// What the operation of a case answers.
+pub(crate) fn run(c: Cells, operation: u32) -> [u32; 4] {
+    match operation {
+        10 => piece_read(c),
+        11 => entry_read(c),
+        _ => header_read(c),
+    }
+}
+
 // A frame read as a piece: the reason, then offset, how many bytes, and the numbers of both stations, of which the
 // destination's counts in hundreds.
-pub(crate) fn piece_read(c: Cells) -> [u32; 4] {
+fn piece_read(c: Cells) -> [u32; 4] {
     let m = piece(c);
     let bytes = m.bytes;
     let mut to: u64 = 0x63000000000000;
@@ -120,7 +129,7 @@ fn stations(to: u64, from: u64) -> u32 {
 }
 
 // A frame read as a directory entry: the reason, then flags, number, and how many bytes its header has.
-pub(crate) fn entry_read(c: Cells) -> [u32; 4] {
+fn entry_read(c: Cells) -> [u32; 4] {
     let m = entry(c);
     let bytes = m.bytes;
     let mut to: u64 = 0;
@@ -149,7 +158,7 @@ pub(crate) fn entry_read(c: Cells) -> [u32; 4] {
 
 // The header of such a frame: the reason, then the length of the file, the body offset, and 1 where item 12 is
 // present.
-pub(crate) fn header_read(c: Cells) -> [u32; 4] {
+fn header_read(c: Cells) -> [u32; 4] {
     let m = entry(c);
     let bytes = m.bytes;
     let mut name: u64 = 0;

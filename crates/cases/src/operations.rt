@@ -13,16 +13,8 @@ pub(crate) fn run(cells: &[u32; 32]) -> [u32; 4] {
     let c = cells::of(cells);
     let operation = cells[OPERATION];
     match operation {
-        0 | 1 | 2 => receptions::kept(c, operation),
-        3 => receptions::listed(c),
-        4 => receptions::saved(c),
-        5 => receptions::loaded(c),
-        6 => requests::written(c),
-        7 => requests::started(c),
-        8 => requests::read(c),
-        9 => frames::piece_read(c),
-        10 => frames::entry_read(c),
-        11 => frames::header_read(c),
-        _ => requests::hole_read(c),
+        0 | 1 | 2 | 3 | 4 | 5 => receptions::run(c, operation),
+        6 | 7 | 8 | 9 => requests::run(c, operation),
+        _ => frames::run(c, operation),
     }
 }

@@ -30,9 +30,19 @@ fn second_buffer(c: Cells) -> [u8; 33000] {
     buffer
 }
 
+// What the operation of a case answers.
+pub(crate) fn run(c: Cells, operation: u32) -> [u32; 4] {
+    match operation {
+        3 => listed(c),
+        4 => saved(c),
+        5 => loaded(c),
+        _ => kept(c, operation),
+    }
+}
+
 // Opens, takes a piece or joins: the reason, then how many are new, the first three bytes of the map, and how
 // many bytes of map and buffer changed.
-pub(crate) fn kept(c: Cells, operation: u32) -> [u32; 4] {
+fn kept(c: Cells, operation: u32) -> [u32; 4] {
     let mut map = map(c.k, c.r);
     let mut buffer = buffer(c.e);
     let told = called(
@@ -110,7 +120,7 @@ fn changes(c: Cells, now: &[u8], then: &[u8]) -> u32 {
 }
 
 // Lists: the reason, then the first position of the hole, and how many it has.
-pub(crate) fn listed(c: Cells) -> [u32; 4] {
+fn listed(c: Cells) -> [u32; 4] {
     let map = map(c.k, c.r);
     let mut start = UNTOLD;
     let mut size = UNTOLD;
@@ -125,7 +135,7 @@ pub(crate) fn listed(c: Cells) -> [u32; 4] {
 }
 
 // Saves: the reason, then the size of the record, and how many bytes of the target changed.
-pub(crate) fn saved(c: Cells) -> [u32; 4] {
+fn saved(c: Cells) -> [u32; 4] {
     let map = map(c.k, c.r);
     let buffer = buffer(c.e);
     let mut target = [0xEE; 37000];
@@ -167,7 +177,7 @@ fn record(c: Cells) -> [u8; 400] {
 }
 
 // Loads: the reason, then number and length, and how many bytes of map and buffer changed.
-pub(crate) fn loaded(c: Cells) -> [u32; 4] {
+fn loaded(c: Cells) -> [u32; 4] {
     let bytes = record(c);
     let before = [0x5A; 100];
     let mut map = before;

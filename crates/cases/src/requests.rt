@@ -20,9 +20,19 @@ fn from(c: Cells) -> u64 {
     characters + ssid * 0x1000000000000
 }
 
+// What the operation of a case answers.
+pub(crate) fn run(c: Cells, operation: u32) -> [u32; 4] {
+    match operation {
+        6 => written(c),
+        7 => started(c),
+        8 => read(c),
+        _ => hole_read(c),
+    }
+}
+
 // Writes a request for holes: the reason, then how many holes, the end of the last, and how many bytes of the
 // target changed.
-pub(crate) fn written(c: Cells) -> [u32; 4] {
+fn written(c: Cells) -> [u32; 4] {
     let map = receptions::map(c.k, c.r);
     let before = [0xEE; 300];
     let mut target = before;
@@ -43,7 +53,7 @@ pub(crate) fn written(c: Cells) -> [u32; 4] {
 }
 
 // Writes a request for the start: the reason, then how many bytes of the target changed, and the file number in it.
-pub(crate) fn started(c: Cells) -> [u32; 4] {
+fn started(c: Cells) -> [u32; 4] {
     let before = [0xEE; 300];
     let mut target = before;
     let reason = station::boundary::station_write_start(
@@ -96,7 +106,7 @@ fn with_hole(before: [u8; 400], at: usize, start: u32, length: u32) -> [u8; 400]
 }
 
 // A frame read as a request: the reason, then flags, number and how many holes.
-pub(crate) fn read(c: Cells) -> [u32; 4] {
+fn read(c: Cells) -> [u32; 4] {
     let m = request(c);
     let bytes = m.bytes;
     let mut to: u64 = 0;
@@ -116,7 +126,7 @@ pub(crate) fn read(c: Cells) -> [u32; 4] {
 }
 
 // A hole of a request by its index: the reason, then its first position, and how many it has.
-pub(crate) fn hole_read(c: Cells) -> [u32; 4] {
+fn hole_read(c: Cells) -> [u32; 4] {
     let m = request(c);
     let bytes = m.bytes;
     let mut start = UNTOLD;
