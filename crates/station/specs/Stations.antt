@@ -10,7 +10,7 @@ use Rattle.reception.specs.Opening.{opening, opened}
 use Rattle.reception.specs.Joining.{joined}
 use Rattle.station.specs.Sequences.{takenFrames, AllAgree}
 
--- A station: the map and the buffer that it was lent, lists of bytes of any length in which the file opens, and the frames that it
+-- A station: the map (a list of bytes) and the buffer that it was lent, of any length in which the file opens, and the frames that it
 -- takes in, of which every piece that fits the file agrees with it. Loss, repeats and order are free.
 pub record Station (number l : ℕ) (file : List ℕ) : Type 0 where
   pub map : List ℕ

@@ -32,15 +32,24 @@
 //
 // An operation answers its values, or one numbered reason in the order above and then no lent byte has
 // changed; none asks anything of its caller. `boundary.rt` and `entry_boundary.rt` have the same operations
-// for a host program, on numbers and byte slices alone (specs/Exports, specs/EntryExports). Below these
-// stand `ax25` (addresses and heads), `header` (file headers), `remainder` (the check), `octets` (numbers
-// and runs of bytes), `positions` (what a map's bits mean) and `reason` (answers, and reasons in their
-// order); above them `report`, the hole program's text.
+// for a host program, on numbers and byte slices alone (specs/Exports, specs/EntryExports).
+//
+// The operations that these are made of have promises of their own:
+//
+//   ax25       writable, read_address, write_address (specs/Address), read_head, write_head (specs/Head)
+//   header     read_header (specs/Header), decide, Cursor::first, Cursor::step (specs/Items)
+//   reception  take, of a piece that was read (specs/Taking), wrong_length, short (specs/Reception), map_size
+//              (positions, specs/Map)
+//   remainder  remainder (specs/Remainder), check_right (specs/Check)
+//   octets     byte, number2, number3, number4, bytes2, bytes3, bytes4 (specs/Numbers), put (specs/Runs)
+//
+// `reason` has answers, and reasons in their order; above all stands `report`, the hole program's text (specs/
+// Reporting).
 //
 // What all of it adds up to is the customer's three demands: they stand in `specs/Demand1.antt`,
 // `specs/Demand2.antt` and `specs/Demand3.antt`, and are proved in `proofs/` under the same names; the
-// worked cases of 01 stand in `specs/Cases.antt`. That no second answer meets a promise is in
-// `proofs/OnlyOne.antt` of each crate.
+// orders stand as 01 prints them in `specs/Orders.antt`, its worked cases in `specs/Cases.antt`. That no
+// second answer meets a promise is in `proofs/OnlyOne.antt` of each crate.
 pub mod boundary;
 pub mod entry_boundary;
 
