@@ -29,7 +29,7 @@ use Rattle.record.specs.Loading.{loadingChecks, Loads}
 use Rattle.station.specs.Taking.{pieceIn, frameChecks, TakesFrame}
 use Rattle.station.specs.Lent.{Lent, receptionIn}
 
--- how many numbered reasons there are
+-- the numbered reasons are 1 to 15
 abbrev pub lastReason : ℕ
 lastReason = 15
 

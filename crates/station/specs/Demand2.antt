@@ -46,8 +46,8 @@ use Rattle.record.specs.Says.{RecordSays}
 use Rattle.record.specs.Loading.{loading, loaded}
 use Rattle.record.specs.GivenBack.{GivesBack}
 
--- a station that can send requests: both addresses can be written, the file's number has four bytes, and the target has room for the
--- longest request
+-- a station that can send requests: both addresses can be written, the file's number has four bytes, the target has room for the
+-- longest request (a shorter one may be refused 12), the length is in range and the map long enough
 pub record CanSend (w : Wanted) (target : List ℕ) : Type 0 where
   pub addresses : (isWritable (w .head .destination) && isWritable (w .head .source)) ≡ true
   pub numbered : w .number < 256 ^ 4
