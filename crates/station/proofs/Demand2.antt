@@ -1,11 +1,13 @@
 -- The second demand, proved: its statements are theorems of the crates where the definitions stand.
 -- Assumes nothing.
-use mathlib.Core.Path.{_≡_, sym, _∙_}
-use mathlib.Core.List.{List}
+use mathlib.Core.Path.{_≡_, sym, ap, _∙_}
+use mathlib.Core.List.{List, _++_}
 use Prim.Native.Nat.{ℕ, _≤_}
 use native.Mathlib.Omega.{arith}
-use lib.ListN.{length, replicate, length-replicate}
+use native.Mathlib.Nat.{zero-add}
+use lib.ListN.{length, drop, replicate, length-replicate}
 use Rattle.reason.specs.Answer.{accepted}
+use Rattle.octets.specs.Runs.{putIn}
 use Rattle.frame.specs.declared.Piece.{Piece}
 use Rattle.frame.specs.declared.Entry.{Entry}
 use Rattle.frame.specs.Piece.{readPiece}
@@ -41,6 +43,11 @@ not-piece-and-request frame p r x y = flags-differ (r .asks) (sym (request-says 
 not-entry-and-request : (frame : List ℕ) (e : Entry) (r : Request) → readEntry frame ≡ accepted e → readRequest frame ≡ accepted r → ⊥
 not-entry-and-request frame e r x y = omega (arith, entry-says frame e x .head .named, request-says frame r y .head .named)
 
+-- a run at the front of a target, and the target behind it
+fills-the-first-bytes : (target run : List ℕ) → putIn target 0 run ≡ run ++ drop (length run) target
+unfolding putIn
+fills-the-first-bytes target run = ap (λ (n : ℕ). run ++ drop n target) (zero-add (length run))
+
 -- a target of the longest request
 abbrev target : List ℕ
 target = replicate (frameLength mostHoles) 0
@@ -72,6 +79,7 @@ demand-2 = record {
   start-is-read = written-start-is-read;
   fill-is-written = λ frame r bytes read asks. accepted-list-is-written frame bytes r read target asks enough .1;
   start-is-written = λ frame r bytes read asks t room. accepted-start-is-written frame bytes r read t asks room;
+  fills-the-first-bytes = fills-the-first-bytes;
   whole-run = λ w t can. whole-run w t (can .addresses) (can .numbered) (can .room) (can .right) (can .mapped);
   missing-is-named-once = λ w t can. unheld-is-named-once w t (can .addresses) (can .numbered) (can .room) (can .right) (can .mapped);
   held-is-never-named = λ w t can. held-is-never-named w t (can .addresses) (can .numbered) (can .room) (can .right) (can .mapped);

@@ -4,7 +4,7 @@
 -- Assumes nothing.
 use mathlib.Core.Path.{_≡_}
 use mathlib.Core.Bool.{true, false, _&&_}
-use mathlib.Core.List.{List}
+use mathlib.Core.List.{List, _++_}
 use Prim.Native.Nat.{ℕ, _^_, _≤_, _<_}
 use lib.ListN.{length, getD, take, drop}
 use Rattle.reason.specs.Answer.{accepted, refused}
@@ -100,6 +100,8 @@ pub record Demand2 : Type 0 where
       → fillFrame (record { head = r .head; number = r .number; length = longest; map = allBut (holesOf frame) }) 0 ≡ frame
   pub start-is-written : (frame : List ℕ) (r : Request) → AllBytes frame → readRequest frame ≡ accepted r → r .asks ≡ Start
       → (target : List ℕ) → frameLength 0 ≤ length target → starting (r .head) (r .number) target ≡ accepted (putIn target 0 frame)
+  -- "A written request or record fills the first bytes of the target; the bytes after it stay": what the promises call `putIn target 0`.
+  pub fills-the-first-bytes : (target run : List ℕ) → putIn target 0 run ≡ run ++ drop (length run) target
   -- Repeated from 0, each time from the end returned, until 15, requests list every hole exactly once, 1 to 49 in each. They name every
   -- position that is missing exactly once, and none that is held: a set bit means held.
   pub whole-run : (w : Wanted) (target : List ℕ) → CanSend w target
