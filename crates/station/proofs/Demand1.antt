@@ -8,26 +8,50 @@ use Prim.Native.Nat.{ℕ, _≤_}
 use native.Mathlib.Omega.{arith}
 use lib.Dec.{leb}
 use borrow.Author.Tests.{leb-true}
+use Rattle.reason.specs.declared.Outcome.{Outcome}
+use Rattle.reason.specs.declared.Outcome.the-variants as done
 use Rattle.reason.specs.Answer.{Answer, accepted, refused, telling, leaving, outcome, Writes}
 use Rattle.reason.specs.Order.{Check, check, firstOf, First, NoneHolds, Exactly}
 use Rattle.reason.proofs.Bools.{and-left, and-right}
 use Rattle.reason.proofs.OrderLaws.{not-both, exactly, answered, accepted-only-if}
 use Rattle.ax25.specs.Head.{headChecks}
-use Rattle.frame.specs.Piece.{pieceChecks, readPiece}
-use Rattle.frame.specs.Entry.{entryChecks, readEntry}
+use Rattle.frame.specs.declared.Piece.{Piece}
+use Rattle.frame.specs.declared.PieceRead.{PieceRead}
+use Rattle.frame.specs.declared.PieceRead.the-variants as piece
+use Rattle.frame.specs.declared.Entry.{Entry}
+use Rattle.frame.specs.declared.EntryRead.{EntryRead}
+use Rattle.frame.specs.declared.EntryRead.the-variants as entry
+use Rattle.frame.specs.Piece.{pieceAnswer, pieceChecks, readPiece}
+use Rattle.frame.specs.Entry.{entryAnswer, entryChecks, readEntry}
 use Rattle.frame.proofs.InOrder.{read-piece-in-order, read-entry-in-order}
+use Rattle.reception.specs.declared.Added.{Added}
+use Rattle.reception.specs.declared.Added.the-variants as added
+use Rattle.reception.specs.declared.Hole.{Hole}
+use Rattle.reception.specs.declared.Listed.{Listed}
+use Rattle.reception.specs.declared.Listed.the-variants as listed
 use Rattle.reception.specs.Reception.{Reception}
-use Rattle.reception.specs.Adding.{Offer, ofPiece, newIn, mapWith, bufferWith, addedAnswer, Adds}
-use Rattle.reception.specs.Opening.{opening}
+use Rattle.reception.specs.Adding.{Offer, ofPiece, newIn, mapWith, bufferWith, after, addedAnswer, Adds}
+use Rattle.reception.specs.Opening.{opening, openedMap, openedBuffer}
 use Rattle.reception.specs.Joining.{joining}
-use Rattle.reception.specs.Listing.{listing}
+use Rattle.reception.specs.Listing.{listing, listedAnswer}
 use Rattle.reception.proofs.InOrder.{open-in-order, join-in-order, list-in-order}
-use Rattle.request.specs.Reading.{requestChecks, readRequest}
+use Rattle.request.specs.declared.Request.{Request}
+use Rattle.request.specs.declared.RequestRead.{RequestRead}
+use Rattle.request.specs.declared.RequestRead.the-variants as request
+use Rattle.request.specs.declared.Written.{Written}
+use Rattle.request.specs.declared.Filled.{Filled}
+use Rattle.request.specs.declared.Filled.the-variants as filled
+use Rattle.request.specs.Reading.{requestAnswer, requestChecks, readRequest}
 use Rattle.request.specs.Writing.{filling, filledAnswer, starting}
 use Rattle.request.proofs.InOrder.{read-request-in-order, write-fill-in-order, write-start-in-order}
+use Rattle.record.specs.declared.Recorded.{Recorded}
+use Rattle.record.specs.declared.RecordRead.{RecordRead}
+use Rattle.record.specs.declared.RecordRead.the-variants as recorded
+use Rattle.record.specs.declared.Saved.{Saved}
+use Rattle.record.specs.declared.Saved.the-variants as saved
 use Rattle.record.specs.Saving.{saving, savedAnswer}
 use Rattle.record.specs.Reading.{readRecord, recordAnswer}
-use Rattle.record.specs.Loading.{loading}
+use Rattle.record.specs.Loading.{loading, loadedMap, loadedBuffer}
 use Rattle.record.proofs.InOrder.{save-in-order, load-in-order, read-record-in-order}
 use Rattle.station.specs.Taking.{pieceIn, frameChecks, takingFrame}
 use Rattle.station.specs.Boundary.{code}
@@ -64,9 +88,10 @@ in-table (check holds m ∷ checks) t n (inr later) = in-table checks (and-right
 -- the law for all operations: by the definition's answer, that the promise gives it, and that a refusal leaves what was lent
 module _ {R A L : Type 0} (checks : List Check) (value : A) (means : R → Answer A) (lent : L) (promise : R → L → Type 0) (answer : Answer A)
     (table : inTable checks ≡ true) (order : Exactly checks value answer) (gives : (r : R) (left : L) → promise r left → means r ≡ answer)
-    (keeps : (r : R) (left : L) → promise r left → (n : ℕ) → answer ≡ refused n → left ≡ lent) where
+    (keeps : (r : R) (left : L) → promise r left → (n : ℕ) → answer ≡ refused n → left ≡ lent) (met : (r : R) × ((left : L) × promise r left)) where
   by-order : Answers checks value means lent promise
   by-order = record {
+    met = met;
     answered = some-or-none checks;
     numbered = in-table checks table;
     refuses-if = λ r left p n first. gives r left p ∙ order .refuses-if n first;
@@ -75,6 +100,43 @@ module _ {R A L : Type 0} (checks : List Check) (value : A) (means : R → Answe
     accepts-only-if = λ r left p a e. order .accepts-only-if a (sym (gives r left p) ∙ e);
     leaves = λ r left p n e. keeps r left p n (sym (gives r left p) ∙ e);
   }
+
+-- every answer is the meaning of a case of each enum
+some-outcome : (x : Answer (Unit {0})) → (r : Outcome) × (outcome r ≡ x)
+some-outcome (accepted a) = (done.Accepted, refl)
+some-outcome (refused n) = (done.Refused n, refl)
+
+some-piece : (x : Answer Piece) → (r : PieceRead) × (pieceAnswer r ≡ x)
+some-piece (accepted a) = (piece.Accepted a, refl)
+some-piece (refused n) = (piece.Refused n, refl)
+
+some-entry : (x : Answer Entry) → (r : EntryRead) × (entryAnswer r ≡ x)
+some-entry (accepted a) = (entry.Accepted a, refl)
+some-entry (refused n) = (entry.Refused n, refl)
+
+some-request : (x : Answer Request) → (r : RequestRead) × (requestAnswer r ≡ x)
+some-request (accepted a) = (request.Accepted a, refl)
+some-request (refused n) = (request.Refused n, refl)
+
+some-added : (x : Answer ℕ) → (r : Added) × (addedAnswer r ≡ x)
+some-added (accepted a) = (added.Accepted a, refl)
+some-added (refused n) = (added.Refused n, refl)
+
+some-listed : (x : Answer Hole) → (r : Listed) × (listedAnswer r ≡ x)
+some-listed (accepted a) = (listed.Accepted a, refl)
+some-listed (refused n) = (listed.Refused n, refl)
+
+some-filled : (x : Answer Written) → (r : Filled) × (filledAnswer r ≡ x)
+some-filled (accepted a) = (filled.Accepted a, refl)
+some-filled (refused n) = (filled.Refused n, refl)
+
+some-saved : (x : Answer ℕ) → (r : Saved) × (savedAnswer r ≡ x)
+some-saved (accepted a) = (saved.Accepted a, refl)
+some-saved (refused n) = (saved.Refused n, refl)
+
+some-record : (x : Answer Recorded) → (r : RecordRead) × (recordAnswer r ≡ x)
+some-record (accepted a) = (recorded.Accepted a, refl)
+some-record (refused n) = (recorded.Refused n, refl)
 
 -- a map and a buffer that a refusal leaves
 both-kept : {A : Type 0} (answer : Answer A) (f g : A → List ℕ) (lent left : Lent) (n : ℕ) → answer ≡ refused n
@@ -89,16 +151,22 @@ adds : (number l : ℕ) (lent : Lent) (o : Offer) (checks : List Check) (value :
 adds number l lent o checks value answer table order =
     let s = receptionIn number l lent in
     by-order checks value addedAnswer lent (λ r left. Adds s o answer r (left .map) (left .buffer)) answer table order (λ r left p. p .answers)
-    (λ r left p n e. both-kept answer (λ k. mapWith s o) (λ k. bufferWith s o) lent left n e (p .leaves-map) (p .leaves-buffer))
+    (λ r left p n e. both-kept answer (λ k. mapWith s o) (λ k. bufferWith s o) lent left n e (p .leaves-map) (p .leaves-buffer)) (
+      some-added answer .0,
+      (
+        record { map = after s o answer .map; buffer = after s o answer .buffer },
+        record { answers = some-added answer .1; leaves-map = refl; leaves-buffer = refl },
+      ),
+    )
 
 -- .. and one list, which a writer that tells values leaves
 writes : {R A : Type 0} (checks : List Check) (value : A) (means : R → Answer A) (target : List ℕ) (answer : Answer A) (made : A → List ℕ)
-    → inTable checks ≡ true
-    → Exactly checks value answer
+    → inTable checks ≡ true → Exactly checks value answer → (r : R) × (means r ≡ answer)
     → Answers checks value means target (λ r left. Writes target answer made (means r) left)
-writes checks value means target answer made table order =
+writes checks value means target answer made table order some =
     by-order checks value means target (λ r left. Writes target answer made (means r) left) answer table order (λ r left p. p .answers)
     (λ r left p n e. p .bytes ∙ ap (leaving made target) e)
+    (some .0, (leaving made target answer, record { answers = some .1; bytes = refl }))
 
 -- the order of a writer that has nothing to tell
 done-in-order : {A : Type 0} (checks : List Check) (value : A) (answer : Answer A) → Exactly checks value answer
@@ -120,32 +188,53 @@ done-in-order {A} checks value answer order = record {
 
 -- an operation that only reads
 reads : {R A : Type 0} (checks : List Check) (value : A) (means : R → Answer A) (answer : Answer A) → inTable checks ≡ true
-    → Exactly checks value answer → Answers checks value means nothing (λ r left. means r ≡ answer)
-reads checks value means answer table order =
+    → Exactly checks value answer → (r : R) × (means r ≡ answer) → Answers checks value means nothing (λ r left. means r ≡ answer)
+reads checks value means answer table order some =
     by-order checks value means nothing (λ r left. means r ≡ answer) answer table order (λ r left p. p) (λ r left p n e. refl)
+    (some .0, (nothing, some .1))
 
 -- ---- each operation
 pub demand-1 : Demand1
 unfolding headChecks pieceChecks entryChecks requestChecks
 demand-1 = record {
-  reads-piece = λ frame. reads _ _ _ (readPiece frame) refl (read-piece-in-order frame);
-  reads-entry = λ frame. reads _ _ _ (readEntry frame) refl (read-entry-in-order frame);
-  reads-request = λ frame. reads _ _ _ (readRequest frame) refl (read-request-in-order frame);
+  reads-piece = λ frame. reads _ _ _ (readPiece frame) refl (read-piece-in-order frame) (some-piece (readPiece frame));
+  reads-entry = λ frame. reads _ _ _ (readEntry frame) refl (read-entry-in-order frame) (some-entry (readEntry frame));
+  reads-request = λ frame. reads _ _ _ (readRequest frame) refl (read-request-in-order frame) (some-request (readRequest frame));
   takes = λ number l lent frame. let s = receptionIn number l lent in adds number l lent _ _ _ (takingFrame s frame) refl (take-in-order s frame);
   opens = λ l lent. let answer = opening l (lent .map) (lent .buffer) in
       by-order _ _ outcome lent _ answer refl (open-in-order l (lent .map) (lent .buffer)) (λ r left p. p .answers)
-      (λ r left p n e. both-kept answer _ _ lent left n e (p .leaves-map) (p .leaves-buffer));
+      (λ r left p n e. both-kept answer _ _ lent left n e (p .leaves-map) (p .leaves-buffer)) (
+        some-outcome answer .0,
+        (
+          record {
+            map = leaving (λ u. openedMap l (lent .map)) (lent .map) answer;
+            buffer = leaving (λ u. openedBuffer l (lent .buffer)) (lent .buffer) answer;
+          },
+          record { answers = some-outcome answer .1; leaves-map = refl; leaves-buffer = refl },
+        ),
+      );
   joins = λ number l lent t. let s = receptionIn number l lent in adds number l lent _ _ _ (joining s t) refl (join-in-order s t);
-  lists = λ l map place. reads _ _ _ (listing l map place) refl (list-in-order l map place);
-  fills = λ w place target. writes _ _ filledAnswer target (filling w place target) _ refl (write-fill-in-order w place target);
+  lists = λ l map place. reads _ _ _ (listing l map place) refl (list-in-order l map place) (some-listed (listing l map place));
+  fills = λ w place target. writes _ _ filledAnswer target (filling w place target) _ refl (write-fill-in-order w place target) (some-filled (filling w place target));
   starts = λ head number target. let made = starting head number target in
       by-order _ _ outcome target _ (telling (λ left. tt {0}) made) refl (done-in-order _ _ made (write-start-in-order head number target))
-      (λ r left p. p .answer) (λ r left p n e. p .bytes ∙ kept target made n e);
-  saves = λ s target. writes _ _ savedAnswer target (saving s target) _ refl (save-in-order s target);
-  reads-record = λ saved. reads _ _ _ (readRecord saved) refl (read-record-in-order saved);
+      (λ r left p. p .answer) (λ r left p n e. p .bytes ∙ kept target made n e)
+      (let some = some-outcome (telling (λ left. tt {0}) made) in
+      (some .0, (leaving (λ left. left) target made, record { answer = some .1; bytes = refl })));
+  saves = λ s target. writes _ _ savedAnswer target (saving s target) _ refl (save-in-order s target) (some-saved (saving s target));
+  reads-record = λ saved. reads _ _ _ (readRecord saved) refl (read-record-in-order saved) (some-record (readRecord saved));
   loads = λ saved lent. let answer = loading saved (lent .map) (lent .buffer) in
       by-order _ _ recordAnswer lent _ answer refl (load-in-order saved (lent .map) (lent .buffer)) (λ r left p. p .answers)
-      (λ r left p n e. both-kept answer _ _ lent left n e (p .leaves-map) (p .leaves-buffer));
+      (λ r left p n e. both-kept answer _ _ lent left n e (p .leaves-map) (p .leaves-buffer)) (
+        some-record answer .0,
+        (
+          record {
+            map = leaving (λ x. loadedMap saved (lent .map)) (lent .map) answer;
+            buffer = leaving (λ x. loadedBuffer saved (lent .buffer)) (lent .buffer) answer;
+          },
+          record { answers = some-record answer .1; leaves-map = refl; leaves-buffer = refl },
+        ),
+      );
 }
   where
     kept : (target : List ℕ) (made : Answer (List ℕ)) (n : ℕ) → telling (λ left. tt {0}) made ≡ refused n

@@ -37,7 +37,8 @@ lastReason = 15
 -- `promise r left` is the promise of its function, r being what it answers and `left` what it leaves of what it was lent; `means`
 -- gives the paper's number and values for each answer.
 pub record Answers {R A L : Type 0} (checks : List Check) (value : A) (means : R → Answer A) (lent : L) (promise : R → L → Type 0) : Type 0 where
-  -- every input gets an answer: a reason holds first, or none holds
+  -- every input gets an answer: there is one that meets the promise, and either a reason holds first, or none holds
+  pub met : (r : R) × ((left : L) × promise r left)
   pub answered : ((n : ℕ) × First n checks) ⊎ NoneHolds checks
   -- what holds is one of the numbered reasons
   pub numbered : (n : ℕ) → First n checks → (1 ≤ n) × (n ≤ lastReason)
