@@ -1,7 +1,7 @@
 -- The third demand over frames, proved: each of its statements from the same about the pieces among the frames.
 -- Assumes nothing.
 use mathlib.Core.Path.{_≡_, refl, sym, ap, ap₂, _∙_}
-use mathlib.Core.Bool.{Bool, true, false, not, _&&_, _||_, or-assoc, or-true, or-false, false≢true}
+use mathlib.Core.Bool.{Bool, true, false, not, _&&_, _||_, or-true, or-false, false≢true}
 use mathlib.Core.Logic.{inl, inr}
 use mathlib.Core.List.{List, [], _∷_, _++_}
 use Prim.Native.Nat.{ℕ, _≤_}
@@ -13,7 +13,7 @@ use Rattle.positions.specs.Map.{mapSize}
 use Rattle.positions.proofs.SpanLaws.{in-span, count-same, count-zero}
 use Rattle.frame.specs.declared.Piece as framed
 use Rattle.frame.specs.Piece.{readPiece}
-use Rattle.reception.specs.Reception.{Reception, wrongLength}
+use Rattle.reception.specs.Reception.{Reception, Piece, wrongLength}
 use Rattle.reception.specs.Adding.{ofPiece, after}
 use Rattle.reception.specs.Opening.{opened, openedMap, openedBuffer, Opens}
 use Rattle.reception.specs.Taking.{taking, taken}
@@ -189,15 +189,20 @@ module _ (number l : ℕ) (file : List ℕ) (ok : wrongLength l ≡ false) where
   join-is-one-station a b c m d f =
       join-is-both a b ∙ sym (ap₂ (λ (s : Reception) (frames : List (List ℕ)). takenFrames s frames) (ap₂ (opened number l) m d) f)
 
+  -- what two sequences cover, by the pieces among them
+  covered-both : (xs ys : List (List ℕ)) (p : ℕ)
+      → (covered number l xs p || covered number l ys p) ≡ pieces.covered number l (by.piecesIn xs ++ by.piecesIn ys) p
+  covered-both xs ys p =
+      ap₂ _||_ (by.fitting-by-pieces number l xs p) (by.fitting-by-pieces number l ys p)
+      ∙ sym (over.covered-both number l file ok (by.piecesIn xs) (by.piecesIn ys) p)
+
   join-is-any-station : (a b c : Station number l file)
       → ((p : ℕ) → covered number l (c .frames) p ≡ (covered number l (a .frames) p || covered number l (b .frames) p))
       → itself (joined (receptionOf a) (receptionOf b)) ≡ itself (receptionOf c)
   join-is-any-station a b c e =
       ap itself (ap₂ joined (same a) (same b))
       ∙ over.join-is-any-station number l file ok (Over a) (Over b) (Over c)
-      (λ p. sym (by.fitting-by-pieces number l (c .frames) p) ∙ e p
-      ∙ ap₂ _||_ (by.fitting-by-pieces number l (a .frames) p) (by.fitting-by-pieces number l (b .frames) p)
-      ∙ sym (over.covered-both number l file ok (by.piecesIn (a .frames)) (by.piecesIn (b .frames)) p))
+      (λ p. sym (by.fitting-by-pieces number l (c .frames) p) ∙ e p ∙ covered-both (a .frames) (b .frames) p)
       ∙ sym (ap itself (same c))
 
   -- ---- receptions that are made
@@ -207,12 +212,6 @@ module _ (number l : ℕ) (file : List ℕ) (ok : wrongLength l ≡ false) where
   room : (s : Reception) → Made number l file s → mapSize l ≤ length (s .map)
   room s m = over.made-holds number l file ok s (M s m) .1 .map-long
 
-  covered-both : (xs ys : List (List ℕ)) (p : ℕ) → covered number l (xs ++ ys) p ≡ (covered number l xs p || covered number l ys p)
-  covered-both [] ys p = refl
-  covered-both (x ∷ xs) ys p =
-      ap (λ (b : Bool). fitsFile number l x && inPiece x p || b) (covered-both xs ys p)
-      ∙ sym (or-assoc (fitsFile number l x && inPiece x p) (covered number l xs p) (covered number l ys p))
-
   made-holds : (s : Reception) → Made number l file s → (frames : List (List ℕ)) × HoldsOf number l file (covered number l frames) s
   made-holds s (station a) = (a .frames, holds-fitting a)
   made-holds u (together s t m n) =
@@ -220,7 +219,8 @@ module _ (number l : ℕ) (file : List ℕ) (ok : wrongLength l ≡ false) where
       let y = made-holds t n in (
         x .0 ++ y .0,
         told number l file (λ p. covered number l (x .0) p || covered number l (y .0) p) (covered number l (x .0 ++ y .0)) (joined s t)
-            (λ p. sym (covered-both (x .0) (y .0) p))
+            (λ p. covered-both (x .0) (y .0) p ∙ ap (λ (q : List Piece). pieces.covered number l q p) (sym (by.pieces-both (x .0) (y .0)))
+            ∙ sym (by.fitting-by-pieces number l (x .0 ++ y .0) p))
             (joined-holds number l file ok (covered number l (x .0)) (covered number l (y .0)) s t (x .1) (y .1)),
       )
 
