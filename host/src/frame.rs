@@ -1,0 +1,145 @@
+//! Frames that a station hears: file pieces and directory entries (01, "Frame" and "File header").
+use crate::{boundary, Address, Reason};
+
+/// A file piece, read from a frame. Its bytes are the frame's own, without the two check bytes.
+///
+/// ```
+/// use thoweldeck::{remainder, Piece, Reason};
+///
+/// // to QST-0 from UOSAT5-11, control 03, protocol BB, then flags 02, file 7, type 0, offset 4 and "ABC"
+/// let mut frame = b"\xA2\xA6\xA8\x40\x40\x40\x60\xAA\x9E\xA6\x82\xA8\x6A\x77\x03\xBB\x02\x07\0\0\0\0\x04\0\0ABC".to_vec();
+/// let check = remainder(&frame[16..]);
+/// frame.extend(check.to_be_bytes());
+///
+/// let piece = Piece::read(&frame)?;
+/// assert_eq!(piece.source.to_string(), "UOSAT5-11");
+/// assert_eq!((piece.number, piece.offset, piece.bytes), (7, 4, &b"ABC"[..]));
+///
+/// frame[25] = b'X';
+/// assert_eq!(Piece::read(&frame), Err(Reason::Check));
+/// # Ok::<(), Reason>(())
+/// ```
+#[derive(Clone, Copy, Debug, PartialEq, Eq)]
+pub struct Piece<'a> {
+    /// To whom the frame goes.
+    pub destination: Address,
+    /// Who sent it.
+    pub source: Address,
+    /// The file's number.
+    pub number: u32,
+    /// The file's type.
+    pub kind: u8,
+    /// The position of the first byte in the file, counted from 0.
+    pub offset: u32,
+    /// The piece: 1 to 244 bytes of the file.
+    pub bytes: &'a [u8],
+}
+
+impl<'a> Piece<'a> {
+    /// Reads a frame as a file piece. Refuses 1 (below 16 bytes), 2, 3, 4, 7 (over 255), 1 (information), 6, 5,
+    /// 7 (no data).
+    pub fn read(frame: &'a [u8]) -> Result<Piece<'a>, Reason> {
+        let mut told = boundary::PieceTold::default();
+        boundary::piece(frame, &mut told)?;
+        Ok(Piece {
+            destination: Address::told(told.destination),
+            source: Address::told(told.source),
+            number: told.number,
+            kind: told.kind,
+            offset: told.offset,
+            bytes: &frame[told.start..told.start + told.size],
+        })
+    }
+}
+
+/// A directory entry, read from a frame, with the values of its file header.
+///
+/// An entry tells the number and the length of a file before any piece of it is heard.
+#[derive(Clone, Copy, Debug, PartialEq, Eq)]
+pub struct Entry<'a> {
+    /// To whom the frame goes.
+    pub destination: Address,
+    /// Who sent it.
+    pub source: Address,
+    /// The flags: bit 5 is set, bit 6 is free.
+    pub flags: u8,
+    /// The file's number.
+    pub number: u32,
+    /// The offset, which is 0: the header is whole.
+    pub offset: u32,
+    /// Time old.
+    pub old: u32,
+    /// Time new.
+    pub new: u32,
+    /// The values of the file header.
+    pub header: Header,
+    /// The file header, the frame's own bytes.
+    pub bytes: &'a [u8],
+}
+
+impl<'a> Entry<'a> {
+    /// Reads a frame as a directory entry. Refuses 1 (below 16 bytes), 2, 3, 4, 7, 1 (information), 6, 5, 14, 8.
+    pub fn read(frame: &'a [u8]) -> Result<Entry<'a>, Reason> {
+        let mut told = boundary::EntryTold::default();
+        boundary::entry(frame, &mut told)?;
+        Ok(Entry {
+            destination: Address::told(told.destination),
+            source: Address::told(told.source),
+            flags: told.flags,
+            number: told.number,
+            offset: told.offset,
+            old: told.old,
+            new: told.new,
+            header: Header::read(frame)?,
+            bytes: &frame[told.start..told.start + told.size],
+        })
+    }
+}
+
+/// The values of a file header's items. Times are seconds since the start of 1970.
+#[derive(Clone, Copy, Debug, PartialEq, Eq)]
+pub struct Header {
+    /// Item 02: the name.
+    pub name: [u8; 8],
+    /// Item 03: the extension.
+    pub extension: [u8; 3],
+    /// Item 04: the whole file's length, with its header.
+    pub size: u32,
+    /// Item 05: when the file was made.
+    pub created: u32,
+    /// Item 06: when it was last changed.
+    pub modified: u32,
+    /// Item 07: upsets seen.
+    pub upset: u8,
+    /// Item 08: the file's type.
+    pub kind: u8,
+    /// Item 09: the body's sum.
+    pub bodysum: u16,
+    /// Item 0A: the header's sum.
+    pub headersum: u16,
+    /// Item 0B: where the body starts in the file.
+    pub body: u16,
+    /// Item 12: when the file was uploaded, where the item is there.
+    pub upload: Option<u32>,
+}
+
+impl Header {
+    fn read(frame: &[u8]) -> Result<Header, Reason> {
+        let mut told = boundary::HeaderTold::default();
+        boundary::header(frame, &mut told)?;
+        let [a, b, c, _] = told.extension.to_le_bytes();
+        Ok(Header {
+            name: told.name.to_le_bytes(),
+            extension: [a, b, c],
+            size: told.size,
+            created: told.created,
+            modified: told.modified,
+            upset: told.upset,
+            kind: told.kind,
+            bodysum: told.bodysum,
+            headersum: told.headersum,
+            body: told.body,
+            upload: if told.uploaded == 1 { Some(told.upload) } else { None },
+        })
+    }
+}

@@ -1,0 +1,53 @@
+//! A ground station for store-and-forward (PACSAT) satellites, over a library that is proved.
+//!
+//! A station hears frames, keeps what it received of a file, joins it with what others received, lists
+//! what is missing and asks for it. The work is done by `libstation.a`, whose functions are written in
+//! Rattle and proved to do what the rules say; this package makes them safe Rust:
+//!
+//! - [`Reception`]: what is held of a file: [`open`](Reception::open), [`take`](Reception::take),
+//!   [`join`](Reception::join), [`holes`](Reception::holes), [`requests`](Reception::requests),
+//!   [`save`](Reception::save), [`load`](Reception::load);
+//! - [`Piece`], [`Entry`], [`Request`]: a frame, read;
+//! - [`Address`]: a callsign and its SSID, from and to the text `VA3SFL-0`;
+//! - [`Reason`]: why something was refused, with the paper's number and a sentence;
+//! - [`boundary`]: the proved functions themselves, on numbers and lent slices.
+//!
+//! Two stations that each missed a part of a file have it whole together:
+//!
+//! ```
+//! use thoweldeck::{remainder, Reason, Reception};
+//!
+//! # fn frame(offset: u8, bytes: &[u8]) -> Vec<u8> {
+//! #     let mut frame = b"\xA2\xA6\xA8\x40\x40\x40\x60\xAA\x9E\xA6\x82\xA8\x6A\x77\x03\xBB\x02\x07\0\0\0\0".to_vec();
+//! #     frame.extend([offset, 0, 0]);
+//! #     frame.extend(bytes);
+//! #     let check = remainder(&frame[16..]);
+//! #     frame.extend(check.to_be_bytes());
+//! #     frame
+//! # }
+//! let mut first = Reception::open(7, 10)?;
+//! let mut second = Reception::open(7, 10)?;
+//! first.take(&frame(0, b"store-"))?; // frames with pieces of file 7
+//! second.take(&frame(4, b"e-and!"))?;
+//!
+//! assert_eq!(first.join(&second)?, 4);
+//! assert_eq!(first.file(), Some(&b"store-and!"[..]));
+//! # Ok::<(), Reason>(())
+//! ```
+#![warn(missing_docs)]
+#![deny(unsafe_code)]
+
+mod address;
+#[allow(unsafe_code)]
+pub mod boundary;
+mod frame;
+mod reason;
+mod reception;
+mod request;
+
+pub use address::Address;
+pub use boundary::remainder;
+pub use frame::{Entry, Header, Piece};
+pub use reason::Reason;
+pub use reception::{Hole, Holes, Reception, LONGEST};
+pub use request::{Asks, Request, Requests};
