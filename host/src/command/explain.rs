@@ -1,0 +1,114 @@
+//! `thoweldeck explain FILE`: a frame field by field, its check worked out, and the reason where it is refused.
+use super::fields::{self, Field, Kind};
+use super::words::Words;
+use super::{bytes, files, End, Ended, Failure};
+use std::fmt::Write;
+use thoweldeck::{remainder, Asks, Entry, Piece, Reason, Request};
+
+// How many bytes a line shows, and how many lines a field.
+const LINE: usize = 8;
+const LINES: usize = 32;
+
+pub fn run(words: Words, text: &mut String) -> End {
+    let [path] = words.exactly(["a frame"])?;
+    let frame = files::frame(&path)?;
+    let kind = match words.text("--as") {
+        Err(_) => kind_of(&frame.bytes),
+        Ok(name) => Kind::named(&name)
+            .ok_or_else(|| Failure::Trouble(format!("`--as {name}` is none of piece, entry and request")))?,
+    };
+    let how = if frame.hexadecimal { "in hexadecimal" } else { "raw" };
+    let said = said(kind, &frame.bytes);
+    let _ = writeln!(text, "{}: {} bytes {how}, read as {}\n", path.display(), frame.bytes.len(), kind.name());
+    table(&fields::of(kind, &frame.bytes), fields::marked(kind, &frame.bytes, said.as_ref().err().copied()), text);
+    if words.has("--steps") {
+        steps(kind, &frame.bytes, text);
+    }
+    match said {
+        Ok(line) => {
+            let _ = writeln!(text, "\naccepted: {line}");
+            Ok(Ended::Well)
+        }
+        Err(reason) => {
+            let _ = writeln!(text, "\nrefused, {reason}");
+            Ok(Ended::Refused)
+        }
+    }
+}
+
+// What a frame is most likely meant to be. Pieces and requests share a protocol, and no frame is accepted as both.
+fn kind_of(frame: &[u8]) -> Kind {
+    let flags = frame.get(16).copied().unwrap_or(0);
+    if frame.get(15) == Some(&0xBD) {
+        Kind::Entry
+    } else if Request::read(frame).is_ok() || (Piece::read(frame).is_err() && (flags == 0x10 || flags == 0x11)) {
+        Kind::Request
+    } else {
+        Kind::Piece
+    }
+}
+
+// The check byte by byte: the remainder of all information up to each.
+fn steps(kind: Kind, frame: &[u8], text: &mut String) {
+    let information = match kind {
+        Kind::Request => return,
+        _ => frame.get(16..frame.len().saturating_sub(2)).unwrap_or(&[]),
+    };
+    let _ = writeln!(text, "\nplace  byte  remainder of the information up to here");
+    for (index, byte) in information.iter().enumerate() {
+        let remainder = remainder(&information[..=index]).to_be_bytes();
+        let _ = writeln!(text, "{:5}  {byte:02X}    {}", 16 + index, bytes::pairs(&remainder));
+    }
+}
+
+// What an accepted frame says, in a line.
+fn said(kind: Kind, frame: &[u8]) -> Result<String, Reason> {
+    match kind {
+        Kind::Piece => Piece::read(frame).map(|piece| {
+            let last = piece.offset as usize + piece.bytes.len() - 1;
+            format!("positions {} to {last} of file {}", piece.offset, piece.number)
+        }),
+        Kind::Entry => Entry::read(frame).map(|entry| {
+            let name = bytes::characters(&entry.header.name);
+            format!("file {}, `{}`, has {} bytes", entry.number, name.trim_end(), entry.header.size)
+        }),
+        Kind::Request => Request::read(frame).map(|request| match request.asks {
+            Asks::Start => format!("asks for the start of file {}", request.number),
+            Asks::Holes(holes) => {
+                let bytes: u32 = holes.iter().map(|hole| hole.length).sum();
+                format!("asks for {bytes} bytes of file {}, in {} holes", request.number, holes.len())
+            }
+        }),
+    }
+}
+
+// The fields as a table, with the reason beside those that it is about.
+fn table(fields: &[Field<'_>], marked: Option<(Reason, Vec<&'static str>)>, text: &mut String) {
+    let _ = writeln!(text, "{:>5}  {:23}  {:12}  meaning", "place", "bytes", "field");
+    for field in fields {
+        let mark = match &marked {
+            Some((reason, names)) if names.contains(&field.name) => format!(" <-- reason {}", reason.number()),
+            _ => String::new(),
+        };
+        rows(field, &mark, text);
+    }
+}
+
+// A field in lines of eight bytes, of which the first has its name and its meaning.
+fn rows(field: &Field<'_>, mark: &str, text: &mut String) {
+    let mut place = field.place;
+    let mut name = field.name.to_string();
+    let mut meaning = format!("{}{mark}", field.meaning);
+    for line in field.bytes.chunks(LINE).take(LINES) {
+        let shown = if field.is_text { format!("|{}| {meaning}", bytes::characters(line)) } else { meaning.clone() };
+        let row = format!("{place:5}  {:23}  {name:12}  {shown}", bytes::pairs(line));
+        let _ = writeln!(text, "{}", row.trim_end());
+        place += line.len();
+        name.clear();
+        meaning.clear();
+    }
+    let hidden = field.bytes.len().saturating_sub(LINE * LINES);
+    if hidden > 0 {
+        let _ = writeln!(text, "{place:5}  and {hidden} bytes more");
+    }
+}

@@ -1,0 +1,85 @@
+//! `thoweldeck holes RECORD`: what is missing, as a list and as a picture.
+use super::words::Words;
+use super::{files, End, Ended};
+use std::fmt::Write;
+use thoweldeck::{Hole, Reception};
+
+// How many characters a picture has at most.
+const WIDTH: u32 = 64;
+
+pub fn run(words: Words, text: &mut String) -> End {
+    let [path] = words.exactly(["a record"])?;
+    let reception = files::record(&path)?;
+    let _ = writeln!(text, "{}: {}", path.display(), summary(&reception));
+    let holes: Vec<Hole> = reception.holes().collect();
+    if !holes.is_empty() {
+        let _ = writeln!(text, "\n start  length  missing");
+    }
+    for hole in &holes {
+        let _ = writeln!(text, "{:6}  {:6}  {}", hole.start, hole.length, positions(*hole));
+    }
+    let _ = writeln!(text, "\n[{}]", picture(&reception));
+    let _ = writeln!(text, "{}", legend(reception.length()));
+    Ok(Ended::Well)
+}
+
+/// A reception in a line: its file, how much is held, and how many holes there are.
+pub fn summary(reception: &Reception) -> String {
+    let (number, length, held) = (reception.number(), reception.length(), reception.held());
+    match reception.holes().count() {
+        0 => format!("file {number}, {length} bytes, all held: the file is complete"),
+        1 => format!("file {number}, {held} of {length} bytes held, 1 hole"),
+        holes => format!("file {number}, {held} of {length} bytes held, {holes} holes"),
+    }
+}
+
+// The positions of a hole, first and last.
+fn positions(hole: Hole) -> String {
+    if hole.length == 1 {
+        format!("position {}", hole.start)
+    } else {
+        format!("positions {} to {}", hole.start, hole.end() - 1)
+    }
+}
+
+// How many positions a character of the picture stands for.
+fn each(length: u32) -> u32 {
+    (length + WIDTH - 1) / WIDTH
+}
+
+// The map as a bar of characters.
+fn picture(reception: &Reception) -> String {
+    let each = each(reception.length());
+    let mut bar = String::new();
+    let mut from = 0;
+    while from < reception.length() {
+        let to = reception.length().min(from + each);
+        bar.push(character(reception, from, to));
+        from = to;
+    }
+    bar
+}
+
+// The character for the positions from one up to another.
+fn character(reception: &Reception, from: u32, to: u32) -> char {
+    let held = (from..to).filter(|position| reception.is_held(*position)).count() as u32;
+    if held == to - from {
+        '#'
+    } else if held == 0 {
+        '.'
+    } else {
+        '+'
+    }
+}
+
+fn legend(length: u32) -> String {
+    let each = each(length);
+    let last = length - (length - 1) / each * each;
+    if each == 1 {
+        "each character is a position: # held, . missing".to_string()
+    } else if last == each {
+        format!("each character is {each} positions: # held, . missing, + some of each")
+    } else {
+        format!("each character is {each} positions, the last one {last}: # held, . missing, + some of each")
+    }
+}

@@ -1,0 +1,60 @@
+//! `thoweldeck request RECORD --from CALL --to CALL -o DIR`: the frames that ask for what is missing.
+use super::words::Words;
+use super::{files, End, Ended, Failure};
+use std::fmt::Write;
+use std::fs;
+use std::path::Path;
+use thoweldeck::{Address, Asks, Request};
+
+pub fn run(words: Words, text: &mut String) -> End {
+    let [path] = words.exactly(["a record"])?;
+    let (from, to) = (address(&words, "--from")?, address(&words, "--to")?);
+    let folder = words.path("-o")?;
+    let reception = files::record(&path)?;
+    let frames: Vec<Vec<u8>> = reception.requests(to, from).collect();
+    let _ = writeln!(text, "{}: {}", path.display(), super::holes::summary(&reception));
+    if frames.is_empty() {
+        let _ = writeln!(text, "nothing is missing, so there is nothing to ask for");
+        return Ok(Ended::Well);
+    }
+    make_folder(&folder)?;
+    for (index, frame) in frames.iter().enumerate() {
+        let name = folder.join(format!("request-{:03}.frame", index + 1));
+        files::write_another(&name, frame)?;
+        let _ = writeln!(text, "{}: {} bytes, {from} to {to}, {}", name.display(), frame.len(), asked(frame)?);
+    }
+    Ok(Ended::Well)
+}
+
+// The address that an option gives. Refuses 2.
+fn address(words: &Words, option: &str) -> Result<Address, Failure> {
+    let text = words.text(option)?;
+    text.parse().map_err(|reason| Failure::Refused(format!("`{option} {text}`"), reason))
+}
+
+// What a request asks for, read from its frame.
+fn asked(frame: &[u8]) -> Result<String, Failure> {
+    let request = Request::read(frame).map_err(|reason| Failure::Refused("the request".to_string(), reason))?;
+    Ok(match request.asks {
+        Asks::Start => "asks for the start".to_string(),
+        Asks::Holes(holes) => {
+            let bytes: u32 = holes.iter().map(|hole| hole.length).sum();
+            format!("asks for {bytes} bytes in {} {}", holes.len(), if holes.len() == 1 { "hole" } else { "holes" })
+        }
+    })
+}
+
+// The folder for the frames. One that has requests already is left alone: what was asked for before would be sent
+// again with them.
+fn make_folder(folder: &Path) -> Result<(), Failure> {
+    fs::create_dir_all(folder).map_err(|error| files::trouble(folder, "cannot be made", &error))?;
+    let entries = fs::read_dir(folder).map_err(|error| files::trouble(folder, "cannot be read", &error))?;
+    for entry in entries.flatten() {
+        let name = entry.file_name().to_string_lossy().into_owned();
+        if name.starts_with("request-") {
+            let line = format!("{}: has requests already ({name}); name another folder", folder.display());
+            return Err(Failure::Stopped(line));
+        }
+    }
+    Ok(())
+}
