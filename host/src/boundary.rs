@@ -129,7 +129,7 @@ extern "C" {
     ) -> u8;
     fn station_is_held(length: u32, map: *const u8, map_size: usize, position: u32) -> bool;
     fn station_count_held(length: u32, map: *const u8, map_size: usize) -> u32;
-    fn station_remainder(bytes: *const u8, size: usize) -> u16;
+    fn station_remainder(bytes: *const u8, bytes_size: usize) -> u16;
 }
 
 // Every call below is sound for the same reason: the exported functions ask nothing of their caller but

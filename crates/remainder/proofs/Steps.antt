@@ -10,6 +10,7 @@ use lib.Pow.{split, pow-pos}
 use lib.Bits.{bitXor, xor-shr, xor-mod, xor-zero-l, xor-zero-r, xor-block, xor-shifted, xor-lt}
 use Rattle.remainder.specs.Remainder.{polynomial, withBit, withBits, bitsOf, messageBits, remainderOf}
 use Rattle.remainder.specs.ByteList.{remainderOfByte}
+use Rattle.remainder.specs.Inner.{inTwo}
 use Rattle.remainder.proofs.Xor.{xor-assoc, xor-swap, xor-shl}
 use Rattle.octets.proofs.ValueLaws.{same-values}
 
@@ -97,7 +98,7 @@ unfolding remainderOfByte remainderOf messageBits
 of-byte b h = byte-at-top 0 b h ∙ ap (leave 8) (xor-zero-l (b * 256))
 
 -- the byte that picks an entry of the list
-pub index-below : (c b : ℕ) → c < 2 ^ 16 → b < 256 → bitXor (c / 256) b < 256
+index-below : (c b : ℕ) → c < 2 ^ 16 → b < 256 → bitXor (c / 256) b < 256
 index-below c b hc hb = xor-lt 8 (c / 256) b (omega arith) hb
 
 -- a byte b after c: the eight bits that leave are those of the high byte and b, and the low byte moves up
@@ -112,3 +113,26 @@ by-entry c b hc hb =
     ∙ ap (leave 8) e
     ∙ low-steps 8 (high * 256) (c % 256) (omega arith)
     ∙ ap (λ (x : ℕ). bitXor x (c % 256 * 256)) (sym (of-byte high (index-below c b hc hb)))
+
+-- a remainder in two parts has 16 bits; the byte beside the entry mixes with its high byte alone
+pub in-two-below : (entry beside : ℕ) → entry < 2 ^ 16 → beside < 256 → inTwo entry beside < 2 ^ 16
+in-two-below entry beside he hb = xor-lt 16 entry (beside * 256) he (omega arith)
+
+in-two-high : (entry beside : ℕ) → inTwo entry beside / 256 ≡ bitXor (entry / 256) beside
+in-two-high entry beside =
+    let back : beside * 256 / 256 ≡ beside = omega arith in
+    xor-shr entry (beside * 256) 8 ∙ ap (bitXor (entry / 256)) back
+
+in-two-low : (entry beside : ℕ) → inTwo entry beside % 256 ≡ entry % 256
+in-two-low entry beside =
+    let none : beside * 256 % 256 ≡ 0 = omega arith in
+    xor-mod entry (beside * 256) 8 ∙ ap (bitXor (entry % 256)) none ∙ xor-zero-r (entry % 256)
+
+-- a byte b after a remainder in two parts: the next entry is picked by the high byte, the byte beside and b
+pub in-two-step : (entry beside b : ℕ) → entry < 2 ^ 16 → beside < 256 → b < 256
+    → withBits (inTwo entry beside) (bitsOf b) ≡ inTwo (remainderOfByte (bitXor (entry / 256) (bitXor beside b))) (entry % 256)
+in-two-step entry beside b he hs hb =
+    let index : bitXor (inTwo entry beside / 256) b ≡ bitXor (entry / 256) (bitXor beside b) =
+    ap (λ (x : ℕ). bitXor x b) (in-two-high entry beside) ∙ xor-assoc (entry / 256) beside b in
+    by-entry (inTwo entry beside) b (in-two-below entry beside he hs) hb
+    ∙ ap₂ (λ (x y : ℕ). bitXor (remainderOfByte x) (y * 256)) index (in-two-low entry beside)

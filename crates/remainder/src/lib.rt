@@ -5,10 +5,11 @@
 // Its contracts cite `specs/Remainder.antt`, where the remainder is taken bit by bit,
 // `specs/ByteList.antt`, the constant list's rule, and `specs/Check.antt`.
 ghost use mathlib.Core.Path.{_≡_};
-ghost use Prim.Native.Nat.{_+_, _*_};
+ghost use Prim.Native.Nat.{_+_, _*_, _%_};
 ghost use Rattle.remainder.specs.Remainder.{withBits, bitsOf, remainderOf};
 ghost use Rattle.remainder.specs.ByteList.{remainderList};
 ghost use Rattle.remainder.specs.Check.{checkRight};
+ghost use Rattle.remainder.specs.Inner.{inTwo};
 
 // The remainder of each byte value.
 const REMAINDERS: [u16; 256] = [
@@ -290,28 +291,47 @@ pub fn check_right(information: &[u8]) -> bool
     remainder(&information[..n]) == given
 }
 
-// The remainder of all bytes of s, from the list, which is lent once for them all.
+// The remainder of all bytes of s, from the list, which is lent once for them all. It is kept in two parts, the
+// list's entry for the last byte and the byte that moves up beside it: the next entry then waits for the last
+// one alone.
 fn by_list(list: &[u16; 256], s: &[u8]) -> u16
     requires { ⌜ now list ≡ remainderList ⌝ }
     ensures { λ r. ⌜ r ≡ remainderOf (now (s .entry)) ⌝ }
 {
-    let mut c: u16 = 0;
+    let mut entry: u16 = 0;
+    let mut beside: u8 = 0;
     let mut i = 0;
     while i < s.len() {
-        c = with_byte(list, c, s[i]);
+        let next = next_entry(list, entry, beside, s[i]);
+        beside = low_byte(entry);
+        entry = next;
         i += 1;
     }
-    c
+    together(entry, beside)
 }
 
-// The remainder after one byte more, from the list.
-fn with_byte(list: &[u16; 256], c: u16, b: u8) -> u16
+// The entry of the list for one byte more.
+fn next_entry(list: &[u16; 256], entry: u16, beside: u8, b: u8) -> u16
     requires { ⌜ now list ≡ remainderList ⌝ }
-    ensures { λ r. ⌜ r ≡ withBits c (bitsOf b) ⌝ }
+    ensures { λ r. ⌜ inTwo r (entry % 256) ≡ withBits (inTwo entry beside) (bitsOf b) ⌝ }
 {
-    let high = (c / 256) as u8;
-    let at = (high ^ b) as usize;
-    list[at] ^ (c % 256 * 256)
+    let high = (entry / 256) as u8;
+    let at = (high ^ (beside ^ b)) as usize;
+    list[at]
+}
+
+// The low byte of a number.
+fn low_byte(n: u16) -> u8
+    ensures { λ r. ⌜ r ≡ n % 256 ⌝ }
+{
+    (n % 256) as u8
+}
+
+// The remainder whose parts are an entry and the byte beside it.
+fn together(entry: u16, beside: u8) -> u16
+    ensures { λ r. ⌜ r ≡ inTwo entry beside ⌝ }
+{
+    entry ^ ((beside as u16) * 256)
 }
 
 // The number of two bytes, the high one first.

@@ -19,6 +19,11 @@ pub fn characters(bytes: &[u8]) -> String {
     bytes.iter().map(|byte| character(*byte)).collect()
 }
 
+/// A count of things: `1 byte`, `2 bytes`.
+pub fn counted(count: usize, thing: &str) -> String {
+    format!("{count} {thing}{}", if count == 1 { "" } else { "s" })
+}
+
 /// A number of bytes, least significant byte first. There are at most eight.
 pub fn number(bytes: &[u8]) -> u64 {
     bytes.iter().rev().fold(0, |above, byte| above * 256 + u64::from(*byte))
@@ -76,6 +81,11 @@ mod tests {
         assert_eq!(date(951_782_400), "2000-02-29 00:00:00 UTC");
         assert_eq!(date(978_307_199), "2000-12-31 23:59:59 UTC");
         assert_eq!(date(4_294_967_295), "2106-02-07 06:28:15 UTC");
+    }
+
+    #[test]
+    fn counts() {
+        assert_eq!((counted(0, "hole"), counted(1, "hole")), ("0 holes".to_string(), "1 hole".to_string()));
     }
 
     #[test]

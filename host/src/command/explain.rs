@@ -19,7 +19,8 @@ pub fn run(words: Words, text: &mut String) -> End {
     };
     let how = if frame.hexadecimal { "in hexadecimal" } else { "raw" };
     let said = said(kind, &frame.bytes);
-    let _ = writeln!(text, "{}: {} bytes {how}, read as {}\n", path.display(), frame.bytes.len(), kind.name());
+    let size = bytes::counted(frame.bytes.len(), "byte");
+    let _ = writeln!(text, "{}: {size} {how}, read as {}\n", path.display(), kind.name());
     table(&fields::of(kind, &frame.bytes), fields::marked(kind, &frame.bytes, said.as_ref().err().copied()), text);
     if words.has("--steps") {
         steps(kind, &frame.bytes, text);
@@ -55,7 +56,8 @@ fn steps(kind: Kind, frame: &[u8], text: &mut String) {
         _ => frame.get(16..frame.len().saturating_sub(2)).unwrap_or(&[]),
     };
     let _ = writeln!(text, "\nplace  byte  remainder of the information up to here");
-    for (index, byte) in information.iter().enumerate() {
+    // an information of more than 255 bytes is refused before its check is looked at
+    for (index, byte) in information.iter().enumerate().take(255) {
         let remainder = remainder(&information[..=index]).to_be_bytes();
         let _ = writeln!(text, "{:5}  {byte:02X}    {}", 16 + index, bytes::pairs(&remainder));
     }
@@ -66,17 +68,20 @@ fn said(kind: Kind, frame: &[u8]) -> Result<String, Reason> {
     match kind {
         Kind::Piece => Piece::read(frame).map(|piece| {
             let last = piece.offset as usize + piece.bytes.len() - 1;
-            format!("positions {} to {last} of file {}", piece.offset, piece.number)
+            let size = bytes::counted(piece.bytes.len(), "byte");
+            format!("{size} of file {}, positions {} to {last}", piece.number, piece.offset)
         }),
         Kind::Entry => Entry::read(frame).map(|entry| {
             let name = bytes::characters(&entry.header.name);
-            format!("file {}, `{}`, has {} bytes", entry.number, name.trim_end(), entry.header.size)
+            let size = bytes::counted(entry.header.size as usize, "byte");
+            format!("file {}, `{}`, has {size}", entry.number, name.trim_end())
         }),
         Kind::Request => Request::read(frame).map(|request| match request.asks {
             Asks::Start => format!("asks for the start of file {}", request.number),
             Asks::Holes(holes) => {
-                let bytes: u32 = holes.iter().map(|hole| hole.length).sum();
-                format!("asks for {bytes} bytes of file {}, in {} holes", request.number, holes.len())
+                let missing: u32 = holes.iter().map(|hole| hole.length).sum();
+                let (missing, holes) = (bytes::counted(missing as usize, "byte"), bytes::counted(holes.len(), "hole"));
+                format!("asks for {missing} of file {}, in {holes}", request.number)
             }
         }),
     }

@@ -1,6 +1,6 @@
 //! The fields of a frame in their order: places, bytes and meanings, as far as its bytes go. It shows where things
 //! stand; whether they are right is for the library.
-use super::bytes::{characters, date, number, pairs};
+use super::bytes::{characters, counted, date, number, pairs};
 use thoweldeck::{remainder, Piece, Reason};
 
 /// What a frame is read as.
@@ -87,7 +87,8 @@ impl<'a> Walk<'a> {
         if bytes.is_empty() {
             return;
         }
-        let meaning = if bytes.len() < size { format!("cut: {size} bytes are wanted") } else { meaning(bytes) };
+        let meaning =
+            if bytes.len() < size { format!("cut: {} wanted", counted(size, "byte")) } else { meaning(bytes) };
         self.fields.push(Field { place: self.place, bytes, name, meaning, is_text: false });
         self.place += bytes.len();
     }
@@ -126,8 +127,8 @@ fn piece(walk: &mut Walk<'_>) {
     walk.next(4, "number", |bytes| format!("file {}", number(bytes)));
     walk.next(1, "type", |bytes| format!("{}", number(bytes)));
     walk.next(3, "offset", |bytes| format!("the data start at position {} of the file", number(bytes)));
-    let size = walk.left().len();
-    walk.rest("data", &format!("{size} bytes of the file"));
+    let size = counted(walk.left().len(), "byte");
+    walk.rest("data", &format!("{size} of the file"));
 }
 
 fn entry(walk: &mut Walk<'_>) {
@@ -201,6 +202,7 @@ fn request(walk: &mut Walk<'_>) {
             let (start, length) = (number(&bytes[..3]), number(&bytes[3..]));
             match length {
                 0 => format!("no byte at position {start}"),
+                1 => format!("1 byte, position {start}"),
                 _ => format!("{length} bytes, positions {start} to {}", start + length - 1),
             }
         });

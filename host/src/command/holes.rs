@@ -1,4 +1,5 @@
 //! `thoweldeck holes RECORD`: what is missing, as a list and as a picture.
+use super::bytes::counted;
 use super::words::Words;
 use super::{files, End, Ended};
 use std::fmt::Write;
@@ -27,9 +28,10 @@ pub fn run(words: Words, text: &mut String) -> End {
 pub fn summary(reception: &Reception) -> String {
     let (number, length, held) = (reception.number(), reception.length(), reception.held());
     match reception.holes().count() {
-        0 => format!("file {number}, {length} bytes, all held: the file is complete"),
-        1 => format!("file {number}, {held} of {length} bytes held, 1 hole"),
-        holes => format!("file {number}, {held} of {length} bytes held, {holes} holes"),
+        0 => format!("file {number}, {}, all held: the file is complete", counted(length as usize, "byte")),
+        holes => {
+            format!("file {number}, {held} of {} held, {}", counted(length as usize, "byte"), counted(holes, "hole"))
+        }
     }
 }
 

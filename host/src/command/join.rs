@@ -1,4 +1,5 @@
 //! `thoweldeck join A B -o C`: what two stations received, in one record.
+use super::bytes::counted;
 use super::words::Words;
 use super::{files, End, Ended, Failure};
 use std::fmt::Write;
@@ -18,7 +19,8 @@ pub fn run(words: Words, text: &mut String) -> End {
     } else {
         files::write_another(&third, &joined.save())?;
     }
-    let _ = writeln!(text, "{}: {new} bytes that {} has not", second.display(), first.display());
+    let new = counted(new as usize, "byte");
+    let _ = writeln!(text, "{}: has {new} that {} has not", second.display(), first.display());
     let _ = writeln!(text, "{}: {}", third.display(), super::holes::summary(&joined));
     Ok(Ended::Well)
 }

@@ -1,4 +1,5 @@
 //! `thoweldeck request RECORD --from CALL --to CALL -o DIR`: the frames that ask for what is missing.
+use super::bytes::counted;
 use super::words::Words;
 use super::{files, End, Ended, Failure};
 use std::fmt::Write;
@@ -21,7 +22,8 @@ pub fn run(words: Words, text: &mut String) -> End {
     for (index, frame) in frames.iter().enumerate() {
         let name = folder.join(format!("request-{:03}.frame", index + 1));
         files::write_another(&name, frame)?;
-        let _ = writeln!(text, "{}: {} bytes, {from} to {to}, {}", name.display(), frame.len(), asked(frame)?);
+        let _ =
+            writeln!(text, "{}: {}, {from} to {to}, {}", name.display(), counted(frame.len(), "byte"), asked(frame)?);
     }
     Ok(Ended::Well)
 }
@@ -38,8 +40,8 @@ fn asked(frame: &[u8]) -> Result<String, Failure> {
     Ok(match request.asks {
         Asks::Start => "asks for the start".to_string(),
         Asks::Holes(holes) => {
-            let bytes: u32 = holes.iter().map(|hole| hole.length).sum();
-            format!("asks for {bytes} bytes in {} {}", holes.len(), if holes.len() == 1 { "hole" } else { "holes" })
+            let missing: u32 = holes.iter().map(|hole| hole.length).sum();
+            format!("asks for {} in {}", counted(missing as usize, "byte"), counted(holes.len(), "hole"))
         }
     })
 }

@@ -1,4 +1,5 @@
 //! `thoweldeck save RECORD -o FILE`: the file itself, where no hole is left.
+use super::bytes::counted;
 use super::words::Words;
 use super::{files, End, Ended, Failure};
 use std::fmt::Write;
@@ -12,6 +13,6 @@ pub fn run(words: Words, text: &mut String) -> End {
         Failure::Stopped(line)
     })?;
     files::write_another(&target, file)?;
-    let _ = writeln!(text, "{}: file {}, {} bytes", target.display(), reception.number(), file.len());
+    let _ = writeln!(text, "{}: file {}, {}", target.display(), reception.number(), counted(file.len(), "byte"));
     Ok(Ended::Well)
 }

@@ -15,7 +15,12 @@ pub fn run(words: Words, text: &mut String) -> End {
     while from < reception.length() {
         let end = missing_lines(&reception, from);
         if end > from {
-            let _ = writeln!(text, "{from:6}  -- {} bytes are missing, up to position {}", end - from, end - 1);
+            let _ = writeln!(
+                text,
+                "{from:6}  -- {} missing, up to position {}",
+                bytes::counted((end - from) as usize, "byte"),
+                end - 1
+            );
             from = end;
         } else {
             let to = reception.length().min(from + LINE);

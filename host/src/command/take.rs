@@ -1,4 +1,5 @@
 //! `thoweldeck take RECORD FRAMES…`: frames into a record, which is made where there is none.
+use super::bytes::counted;
 use super::words::Words;
 use super::{files, End, Ended, Failure};
 use std::fmt::Write;
@@ -41,7 +42,7 @@ fn extended(path: &Path, wanted: Wanted) -> Result<Reception, Failure> {
     let reception = files::record(path)?;
     let (number, length) = (reception.number(), reception.length());
     if wanted.number.unwrap_or(number) != number || wanted.length.unwrap_or(length) != length {
-        let what = format!("{}: file {number} of {length} bytes", path.display());
+        let what = format!("{}: file {number}, {}", path.display(), counted(length as usize, "byte"));
         return Err(Failure::Refused(what, Reason::OtherFile));
     }
     Ok(reception)
@@ -61,7 +62,8 @@ fn opened(path: &Path, wanted: Wanted, frames: &[(PathBuf, Vec<u8>)], text: &mut
         .length
         .or_else(|| entries.iter().find(|entry| entry.number == number).map(|entry| entry.header.size))
         .ok_or_else(|| unknown(path, "length", "its directory entry", "--length"))?;
-    let what = format!("{}: a new record of file {number}, {length} bytes", path.display());
+    let size = counted(length as usize, "byte");
+    let what = format!("{}: a new record of file {number}, {size}", path.display());
     let reception = Reception::open(number, length).map_err(|reason| Failure::Refused(what.clone(), reason))?;
     let _ = writeln!(text, "{what}");
     Ok(reception)
@@ -78,7 +80,7 @@ fn unknown(path: &Path, field: &str, frame: &str, option: &str) -> Failure {
 // Takes a frame in and says what happened; whether it was accepted.
 fn take(reception: &mut Reception, name: &Path, frame: &[u8], text: &mut String) -> bool {
     let (line, accepted) = match Entry::read(frame) {
-        Ok(entry) => (format!("directory entry of file {}, {} bytes", entry.number, entry.header.size), true),
+        Ok(entry) => (told(&entry), true),
         Err(_) => match reception.take(frame) {
             Ok(new) => (taken(frame, new), true),
             Err(reason) => (format!("refused, {reason}"), false),
@@ -88,11 +90,18 @@ fn take(reception: &mut Reception, name: &Path, frame: &[u8], text: &mut String)
     accepted
 }
 
+// What a directory entry says.
+fn told(entry: &Entry<'_>) -> String {
+    format!("directory entry of file {}, {}", entry.number, counted(entry.header.size as usize, "byte"))
+}
+
 // What an accepted piece brought.
 fn taken(frame: &[u8], new: u32) -> String {
     match Piece::read(frame) {
-        Ok(piece) if new == 0 => format!("{} bytes at {}, a repeat: nothing new", piece.bytes.len(), piece.offset),
-        Ok(piece) => format!("{} bytes at {}, {new} new", piece.bytes.len(), piece.offset),
+        Ok(piece) => {
+            let brought = if new == 0 { "a repeat: nothing new".to_string() } else { format!("{new} new") };
+            format!("{} at {}, {brought}", counted(piece.bytes.len(), "byte"), piece.offset)
+        }
         Err(_) => format!("{new} new"),
     }
 }

@@ -1,0 +1,6 @@
+//! The command `thoweldeck`, run as a user runs it: what it prints, its exit status, and what it leaves in files.
+mod explaining;
+mod page;
+mod records;
+mod room;
+mod words;

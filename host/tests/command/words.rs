@@ -1,0 +1,59 @@
+//! Words that make no sense: a clear line, exit status 2, and nothing changed.
+use super::room::Room;
+
+#[test]
+fn words_that_make_no_sense_are_told() {
+    let room = Room::new();
+    for (words, said) in [
+        (&[][..], "what shall be done?"),
+        (&["taek"], "there is no `taek`"),
+        (&["explain"], "a frame is wanted, and 0 given"),
+        (&["explain", "a", "b"], "a frame is wanted, and 2 given"),
+        (&["explain", "samples/survey/entry.frame", "--as", "letter"], "`--as letter` is none of"),
+        (&["take", "a.record"], "a record and the frames to take are wanted"),
+        (&["take", "a.record", "b", "--colour", "red"], "there is no option `--colour`"),
+        (&["take", "a.record", "samples/survey/entry.frame", "--length", "many"], "`--length many` is not"),
+        (&["take", "a.record", "samples/survey/entry.frame", "--length", "-1"], "`--length -1` is not"),
+        (&["join", "a", "b"], "`-o` is wanted"),
+        (&["join", "a", "b", "-o"], "`-o` is to be followed by its value"),
+        (&["save", "a", "-o", "b", "-o", "c"], "`-o` is given twice"),
+        (&["request", "a", "-o", "b", "--to", "QST"], "`--from` is wanted"),
+        (&["holes", "absent.record"], "absent.record: cannot be read"),
+        (&["holes", "samples"], "samples: cannot be read"),
+        (&["help", "nothing"], "there is no `nothing`"),
+    ] {
+        let ran = room.run(words);
+        assert_eq!(ran.status, 2, "{words:?}: {ran:?}");
+        assert!(ran.errors.starts_with("thoweldeck: "), "{words:?}: {ran:?}");
+        assert!(ran.errors.contains(said), "{words:?}: {ran:?}");
+        assert_eq!(ran.text, "");
+    }
+    assert_eq!(room.names(), Vec::<String>::new());
+}
+
+#[test]
+fn help_has_every_part_and_every_reason() {
+    let room = Room::new();
+    let whole = room.run(&["--help"]);
+    assert_eq!((whole.status, whole.errors.as_str()), (0, ""));
+    for part in ["explain", "take", "join", "holes", "request", "show", "save"] {
+        let page = room.run(&[part, "--help"]);
+        assert_eq!(page.status, 0);
+        assert!(page.text.starts_with(&format!("thoweldeck {part} ")), "{part}");
+        assert!(whole.text.contains(page.text.trim_end()), "{part}");
+        assert_eq!(room.run(&["help", part]).text, page.text);
+    }
+    for number in 1..=15 {
+        assert!(whole.text.contains(&format!("\n{number:4}  ")), "reason {number}");
+    }
+    assert!(whole.text.lines().all(|line| line.len() <= 104), "the page is not too wide");
+}
+
+#[test]
+fn words_behind_two_dashes_are_names() {
+    let room = Room::new();
+    room.write("--steps", b"no frame");
+    let ran = room.run(&["explain", "--", "--steps"]);
+    assert_eq!(ran.status, 1);
+    assert!(ran.text.starts_with("--steps: 8 bytes raw"), "{ran:?}");
+}
