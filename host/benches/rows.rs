@@ -241,11 +241,5 @@ pub const ROWS: [Row; 21] = [
     together::<Save>("save", "every second position held", 3, SAME, inputs::every_second),
     together::<Load>("load", "complete file", 3, SAME, inputs::complete_record),
     together::<Load>("load", "every second position held", 3, SAME, inputs::every_second_record),
-    together::<Entry>(
-        "read entry",
-        "figure 3.2 (library: entry and header, two calls)",
-        200,
-        UNCHANGED,
-        inputs::figure,
-    ),
+    together::<Entry>("read entry", "figure 3.2, with all values of its header", 200, UNCHANGED, inputs::figure),
 ];

@@ -58,9 +58,9 @@ pub struct Library;
 /// Plain Rust.
 pub struct Plain;
 
-/// Hands every operation of a side to the functions of a module; what reads an entry stands after it.
+/// Hands every operation of a side to the functions of a module.
 macro_rules! side {
-    ($side:ident, $module:ident, $entry:expr) => {
+    ($side:ident, $module:ident) => {
         impl Side for $side {
             fn remainder(bytes: &[u8]) -> u16 {
                 $module::remainder(bytes)
@@ -120,20 +120,14 @@ macro_rules! side {
                 $module::write_request(wanted, place, target, count, end)
             }
             fn entry(frame: &[u8], told: &mut EntryTold, header: &mut HeaderTold) -> Result<(), Reason> {
-                $entry(frame, told, header)
+                $module::entry(frame, told, header)
             }
         }
     };
 }
 
-side!(Library, boundary, entry_and_header);
-side!(Plain, plain, plain::entry);
-
-/// Reads an entry and then its header: the library has a function for each, and a host calls both.
-fn entry_and_header(frame: &[u8], told: &mut EntryTold, header: &mut HeaderTold) -> Result<(), Reason> {
-    boundary::entry(frame, told)?;
-    boundary::header(frame, header)
-}
+side!(Library, boundary);
+side!(Plain, plain);
 
 /// Hands on a value of which the compiler may know nothing, so that no call is moved or left out.
 pub fn black_box<T: Copy>(value: T) -> T {

@@ -110,13 +110,9 @@ extern "C" {
         new: &mut u32,
         start: &mut usize,
         size: &mut usize,
-    ) -> u8;
-    fn station_header(
-        frame: *const u8,
-        frame_size: usize,
         name: &mut u64,
         extension: &mut u32,
-        size: &mut u32,
+        whole: &mut u32,
         created: &mut u32,
         modified: &mut u32,
         upset: &mut u8,
@@ -392,26 +388,7 @@ pub struct EntryTold {
     pub size: usize,
 }
 
-/// Reads a frame as a directory entry. Refuses 1, 2, 3, 4, 7, 1, 6, 5, 14, 8.
-pub fn entry(frame: &[u8], told: &mut EntryTold) -> Result<(), Reason> {
-    answer(unsafe {
-        station_entry(
-            frame.as_ptr(),
-            frame.len(),
-            &mut told.destination,
-            &mut told.source,
-            &mut told.flags,
-            &mut told.number,
-            &mut told.offset,
-            &mut told.old,
-            &mut told.new,
-            &mut told.start,
-            &mut told.size,
-        )
-    })
-}
-
-/// What [`header`] tells: the values of a file header's items.
+/// What [`entry`] tells beside: the values of the file header's items.
 #[derive(Clone, Copy, Debug, Default, PartialEq, Eq)]
 pub struct HeaderTold {
     /// Item 02: the eight bytes of the name, least significant byte first.
@@ -440,24 +417,33 @@ pub struct HeaderTold {
     pub upload: u32,
 }
 
-/// Reads the file header in a directory entry's frame. Refuses as [`entry`] does.
-pub fn header(frame: &[u8], told: &mut HeaderTold) -> Result<(), Reason> {
+/// Reads a frame as a directory entry, and the file header in it. Refuses 1, 2, 3, 4, 7, 1, 6, 5, 14, 8.
+pub fn entry(frame: &[u8], told: &mut EntryTold, header: &mut HeaderTold) -> Result<(), Reason> {
     answer(unsafe {
-        station_header(
+        station_entry(
             frame.as_ptr(),
             frame.len(),
-            &mut told.name,
-            &mut told.extension,
+            &mut told.destination,
+            &mut told.source,
+            &mut told.flags,
+            &mut told.number,
+            &mut told.offset,
+            &mut told.old,
+            &mut told.new,
+            &mut told.start,
             &mut told.size,
-            &mut told.created,
-            &mut told.modified,
-            &mut told.upset,
-            &mut told.kind,
-            &mut told.bodysum,
-            &mut told.headersum,
-            &mut told.body,
-            &mut told.uploaded,
-            &mut told.upload,
+            &mut header.name,
+            &mut header.extension,
+            &mut header.size,
+            &mut header.created,
+            &mut header.modified,
+            &mut header.upset,
+            &mut header.kind,
+            &mut header.bodysum,
+            &mut header.headersum,
+            &mut header.body,
+            &mut header.uploaded,
+            &mut header.upload,
         )
     })
 }

@@ -81,7 +81,8 @@ impl<'a> Entry<'a> {
     /// Reads a frame as a directory entry. Refuses 1 (below 16 bytes), 2, 3, 4, 7, 1 (information), 6, 5, 14, 8.
     pub fn read(frame: &'a [u8]) -> Result<Entry<'a>, Reason> {
         let mut told = boundary::EntryTold::default();
-        boundary::entry(frame, &mut told)?;
+        let mut header = boundary::HeaderTold::default();
+        boundary::entry(frame, &mut told, &mut header)?;
         Ok(Entry {
             destination: Address::told(told.destination),
             source: Address::told(told.source),
@@ -90,7 +91,7 @@ impl<'a> Entry<'a> {
             offset: told.offset,
             old: told.old,
             new: told.new,
-            header: Header::read(frame)?,
+            header: Header::told(header),
             bytes: &frame[told.start..told.start + told.size],
         })
     }
@@ -124,11 +125,10 @@ pub struct Header {
 }
 
 impl Header {
-    fn read(frame: &[u8]) -> Result<Header, Reason> {
-        let mut told = boundary::HeaderTold::default();
-        boundary::header(frame, &mut told)?;
+    // The header that the library told.
+    fn told(told: boundary::HeaderTold) -> Header {
         let [a, b, c, _] = told.extension.to_le_bytes();
-        Ok(Header {
+        Header {
             name: told.name.to_le_bytes(),
             extension: [a, b, c],
             size: told.size,
@@ -140,6 +140,6 @@ impl Header {
             headersum: told.headersum,
             body: told.body,
             upload: if told.uploaded == 1 { Some(told.upload) } else { None },
-        })
+        }
     }
 }

@@ -130,6 +130,19 @@ fn stations(to: u64, from: u64) -> u32 {
 
 // A frame read as a directory entry: the reason, then flags, number, and how many bytes its header has.
 fn entry_read(c: Cells) -> [u32; 4] {
+    let told = entry_told(c);
+    [told[0], told[1], told[2], told[3]]
+}
+
+// The header of such a frame: the reason, then the length of the file, the body offset, and 1 where item 12 is
+// present.
+fn header_read(c: Cells) -> [u32; 4] {
+    let told = entry_told(c);
+    [told[0], told[4], told[5], told[6]]
+}
+
+// What is told of both.
+fn entry_told(c: Cells) -> [u32; 7] {
     let m = entry(c);
     let bytes = m.bytes;
     let mut to: u64 = 0;
@@ -141,6 +154,18 @@ fn entry_read(c: Cells) -> [u32; 4] {
     let mut new = UNTOLD;
     let mut start: usize = 99;
     let mut size: usize = 99;
+    let mut name: u64 = 0;
+    let mut extension = UNTOLD;
+    let mut whole = UNTOLD;
+    let mut created = UNTOLD;
+    let mut modified = UNTOLD;
+    let mut upset: u8 = 99;
+    let mut kind: u8 = 99;
+    let mut bodysum: u16 = 99;
+    let mut headersum: u16 = 99;
+    let mut body: u16 = 99;
+    let mut uploaded: u8 = 99;
+    let mut upload = UNTOLD;
     let reason = station::entry_boundary::station_entry(
         made::part(&bytes, m.size),
         &mut to,
@@ -152,32 +177,9 @@ fn entry_read(c: Cells) -> [u32; 4] {
         &mut new,
         &mut start,
         &mut size,
-    );
-    [reason as u32, flags as u32, number, (size % 400) as u32]
-}
-
-// The header of such a frame: the reason, then the length of the file, the body offset, and 1 where item 12 is
-// present.
-fn header_read(c: Cells) -> [u32; 4] {
-    let m = entry(c);
-    let bytes = m.bytes;
-    let mut name: u64 = 0;
-    let mut extension = UNTOLD;
-    let mut size = UNTOLD;
-    let mut created = UNTOLD;
-    let mut modified = UNTOLD;
-    let mut upset: u8 = 99;
-    let mut kind: u8 = 99;
-    let mut bodysum: u16 = 99;
-    let mut headersum: u16 = 99;
-    let mut body: u16 = 99;
-    let mut uploaded: u8 = 99;
-    let mut upload = UNTOLD;
-    let reason = station::entry_boundary::station_header(
-        made::part(&bytes, m.size),
         &mut name,
         &mut extension,
-        &mut size,
+        &mut whole,
         &mut created,
         &mut modified,
         &mut upset,
@@ -188,5 +190,13 @@ fn header_read(c: Cells) -> [u32; 4] {
         &mut uploaded,
         &mut upload,
     );
-    [reason as u32, size, body as u32, uploaded as u32]
+    [
+        reason as u32,
+        flags as u32,
+        number,
+        (size % 400) as u32,
+        whole,
+        body as u32,
+        uploaded as u32,
+    ]
 }

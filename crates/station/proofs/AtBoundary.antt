@@ -97,7 +97,7 @@ at-boundary = record {
       (load-in-order saved (lent .map) (lent .buffer));
   station-piece = λ frame lent. returns (pieceOrder frame) _ _ _ lent refl (read-piece-in-order frame);
   station-entry = λ frame lent. returns (entryOrder frame) _ _ _ lent refl (read-entry-in-order frame);
-  station-header = λ frame lent. returns (entryOrder frame) _ _ _ lent refl (read-entry-in-order frame);
+  station-entry-header = λ frame lent. returns (entryOrder frame) _ _ _ lent refl (read-entry-in-order frame);
   station-write-request = λ w place lent. returns (fillChecks w place (lent .target)) _ _ _ lent refl (write-fill-in-order w place (lent .target));
   station-write-start = λ head number lent. returns (startChecks head lent) _ _ _ lent refl (write-start-in-order head number lent);
   station-read-request = λ frame lent. returns (requestOrder frame) _ _ _ lent refl (read-request-in-order frame);

@@ -50,7 +50,7 @@ pub record AtBoundary : Type 0 where
   pub station-load : (saved : List ℕ) (lent : Reception) → Returns (loadingChecks saved (lent .map) (lent .buffer)) lent (out.LoadsOut saved lent)
   pub station-piece : (frame : List ℕ) (lent : out.PieceNumbers) → Returns (pieceOrder frame) lent (out.PieceOut frame lent)
   pub station-entry : (frame : List ℕ) (lent : entry.EntryNumbers) → Returns (entryOrder frame) lent (entry.EntryOut frame lent)
-  pub station-header : (frame : List ℕ) (lent : entry.HeaderNumbers) → Returns (entryOrder frame) lent (entry.HeaderOut frame lent)
+  pub station-entry-header : (frame : List ℕ) (lent : entry.HeaderNumbers) → Returns (entryOrder frame) lent (entry.HeaderOut frame lent)
   pub station-write-request : (w : Wanted) (place : ℕ) (lent : out.WrittenRequest)
       → Returns (fillChecks w place (lent .target)) lent (out.FillsOut w place lent)
   pub station-write-start : (head : Head) (number : ℕ) (lent : List ℕ) → Returns (startChecks head lent) lent (out.StartsOut head number lent)

@@ -43,7 +43,7 @@ entryNumbers frame e = record {
   size = length (headerPart (informationOf frame));
 }
 
--- `station_entry`
+-- `station_entry`: of the entry's numbers
 abbrev pub EntryOut : List ℕ → EntryNumbers → ℕ → EntryNumbers → Type 0
 EntryOut frame = Exported (readEntry frame) (entryNumbers frame)
 
@@ -96,6 +96,6 @@ headerNumbers h = record {
   upload = uploadOf (h .upload);
 }
 
--- `station_header`
+-- `station_entry`: of the header's numbers, in the same call
 abbrev pub HeaderOut : List ℕ → HeaderNumbers → ℕ → HeaderNumbers → Type 0
 HeaderOut frame = Exported (readEntry frame) (λ e. headerNumbers (e .header))

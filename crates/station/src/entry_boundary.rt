@@ -1,6 +1,6 @@
 // The boundary to a host program: directory entries, and what is asked of a map or of bytes alone.
 //
-// The functions that read an entry return and tell as those of `boundary.rt`; a name and an extension are
+// The function that reads an entry returns and tells as those of `boundary.rt`; a name and an extension are
 // numbers too, of their bytes, least significant byte first. The others refuse nothing, and return what
 // their operations answer. The contracts cite `specs/EntryExports.antt`.
 use super::boundary;
@@ -14,8 +14,9 @@ ghost use Rattle.remainder.specs.Remainder.{remainderOf};
 ghost use Rattle.reception.specs.Held.{heldOf, heldCount};
 ghost use Rattle.station.specs.EntryExports.{EntryOut, nameNumber, extensionNumber, uploadedOf, uploadOf, HeaderOut};
 
-// Reads a frame as a directory entry, as `frame::read_entry`, and tells its fields and where its file header
-// stands in the frame: 1, 2, 3, 4, 7, 1, 6, 5, 14, 8.
+// Reads a frame as a directory entry, as `frame::read_entry`, and tells its fields, where its file header stands
+// in the frame, and the values of that header: 1, 2, 3, 4, 7, 1, 6, 5, 14, 8. Item 04 is told as `whole`, the whole
+// file's length. Where item 12 is present `uploaded` is 1 and `upload` its time, and both are 0 where not.
 #[no_mangle]
 pub extern "C" fn station_entry(
     frame: &[u8],
@@ -28,6 +29,18 @@ pub extern "C" fn station_entry(
     new: &mut u32,
     start: &mut usize,
     size: &mut usize,
+    name: &mut u64,
+    extension: &mut u32,
+    whole: &mut u32,
+    created: &mut u32,
+    modified: &mut u32,
+    upset: &mut u8,
+    kind: &mut u8,
+    bodysum: &mut u16,
+    headersum: &mut u16,
+    body: &mut u16,
+    uploaded: &mut u8,
+    upload: &mut u32,
 ) -> u8
     ensures { λ r. ⌜ EntryOut (now (frame .entry))
         (record {
@@ -52,48 +65,11 @@ pub extern "C" fn station_entry(
           start = now (start .exit);
           size = now (size .exit);
         }) ⌝ }
-{
-    let read = frame::read_entry(frame);
-    match read {
-        EntryRead::Accepted(entry) => {
-            *destination = boundary::address_number(entry.head.destination);
-            *source = boundary::address_number(entry.head.source);
-            *flags = entry.flags;
-            *number = entry.number;
-            *offset = entry.offset;
-            *old = entry.old;
-            *new = entry.new;
-            *start = HEADER_AT;
-            *size = frame::header_of(frame, read).len();
-            0
-        }
-        EntryRead::Refused(n) => n,
-    }
-}
-
-// Tells the values of the file header in a directory entry's frame. Where item 12 is present `uploaded` is 1
-// and `upload` its time, and both are 0 where not. It refuses as `station_entry` does.
-#[no_mangle]
-pub extern "C" fn station_header(
-    frame: &[u8],
-    name: &mut u64,
-    extension: &mut u32,
-    size: &mut u32,
-    created: &mut u32,
-    modified: &mut u32,
-    upset: &mut u8,
-    kind: &mut u8,
-    bodysum: &mut u16,
-    headersum: &mut u16,
-    body: &mut u16,
-    uploaded: &mut u8,
-    upload: &mut u32,
-) -> u8
     ensures { λ r. ⌜ HeaderOut (now (frame .entry))
         (record {
           name = now (name .entry);
           extension = now (extension .entry);
-          size = now (size .entry);
+          size = now (whole .entry);
           created = now (created .entry);
           modified = now (modified .entry);
           upset = now (upset .entry);
@@ -107,7 +83,7 @@ pub extern "C" fn station_header(
         r (record {
           name = now (name .exit);
           extension = now (extension .exit);
-          size = now (size .exit);
+          size = now (whole .exit);
           created = now (created .exit);
           modified = now (modified .exit);
           upset = now (upset .exit);
@@ -119,13 +95,23 @@ pub extern "C" fn station_header(
           upload = now (upload .exit);
         }) ⌝ }
 {
-    match frame::read_entry(frame) {
+    let read = frame::read_entry(frame);
+    match read {
         EntryRead::Accepted(entry) => {
             let header = entry.header;
             let item = header.upload;
+            *destination = boundary::address_number(entry.head.destination);
+            *source = boundary::address_number(entry.head.source);
+            *flags = entry.flags;
+            *number = entry.number;
+            *offset = entry.offset;
+            *old = entry.old;
+            *new = entry.new;
+            *start = HEADER_AT;
+            *size = frame::header_of(frame, read).len();
             *name = name_number(header.name);
             *extension = extension_number(header.extension);
-            *size = header.size;
+            *whole = header.size;
             *created = header.created;
             *modified = header.modified;
             *upset = header.upset;
