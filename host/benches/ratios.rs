@@ -14,7 +14,7 @@ mod rows;
 mod sides;
 
 use inputs::Space;
-use rows::{Row, ROWS};
+use rows::Row;
 use std::env;
 use std::process::ExitCode;
 use std::time::{Duration, Instant};
@@ -35,16 +35,17 @@ fn main() -> ExitCode {
         Ok(rounds) => rounds,
         Err(error) => return stop(&error),
     };
-    for row in &ROWS {
+    let rows = rows::rows();
+    for row in &rows {
         if let Err(error) = check(row) {
             return stop(&error);
         }
     }
     let clock = clock_time();
-    println!("{} inputs: equal answers and equal lent bytes.", ROWS.len());
+    println!("{} inputs: equal answers and equal lent bytes.", rows.len());
     println!("Minimum of {rounds} rounds, library and plain Rust in turns; ratio = plain / library.\n");
     print_head(markdown);
-    for row in ROWS.iter().filter(|row| is_chosen(row, &words)) {
+    for row in rows.iter().filter(|row| is_chosen(row, &words)) {
         print_row(row, &measure(row, rounds, clock), markdown);
     }
     ExitCode::SUCCESS

@@ -39,7 +39,7 @@ trait Operation {
 }
 
 /// The work of a side at an operation.
-const fn work<S: Side, O: Operation>() -> Work {
+fn work<S: Side, O: Operation>() -> Work {
     Work { answers: answers::<S, O>, repeat: repeat::<S, O> }
 }
 
@@ -203,12 +203,12 @@ impl Operation for Entry {
 }
 
 /// A row whose space is put back before each call: each call is timed alone.
-const fn alone<O: Operation>(operation: &'static str, case: &'static str, input: fn() -> Space) -> Row {
+fn alone<O: Operation>(operation: &'static str, case: &'static str, input: fn() -> Space) -> Row {
     Row { reset: true, parts: 10, ..together::<O>(operation, case, 1, PUT_BACK, input) }
 }
 
 /// A row whose space need not be put back: as many calls as said are timed together.
-const fn together<O: Operation>(
+fn together<O: Operation>(
     operation: &'static str,
     case: &'static str,
     calls: u32,
@@ -220,26 +220,28 @@ const fn together<O: Operation>(
 }
 
 /// All rows.
-pub const ROWS: [Row; 21] = [
-    together::<Remainder>("remainder", "253 bytes", 200, UNCHANGED, inputs::longest_content),
-    together::<Remainder>("remainder", "1 byte: the cost of the call", 10_000, UNCHANGED, inputs::one_byte),
-    together::<Open>("open", "L 32,768", 30, SAME, inputs::opened),
-    alone::<Take>("take", "fresh: 244 bytes, from a map byte's start on", inputs::fresh),
-    alone::<Take>("take", "fresh: 244 bytes, from inside a map byte on", inputs::fresh_inside),
-    together::<Take>("take", "repeat: the same 244 bytes again", 100, SAME, inputs::repeat),
-    alone::<Take>("take", "overlapping: half of the 244 bytes held", inputs::overlapping),
-    alone::<Take>("take", "whole file: 135 pieces of 32,768 bytes", inputs::whole_file),
-    alone::<Join>("join", "disjoint: first half, second half", inputs::halves),
-    together::<Join>("join", "equal: both hold everything", 3, SAME, inputs::both_whole),
-    alone::<Join>("join", "alternate: even positions, odd positions", inputs::even_and_odd),
-    together::<List>("list all", "no hole: complete file", 20, UNCHANGED, inputs::complete),
-    together::<List>("list all", "1 hole: opened", 20, UNCHANGED, inputs::opened),
-    together::<List>("list all", "16,384 holes: every second position held", 1, UNCHANGED, inputs::every_second),
-    together::<Request>("request all", "1 hole: opened", 20, SAME, inputs::one_hole),
-    together::<Request>("request all", "16,384 holes: every second position held", 1, SAME, inputs::every_second),
-    together::<Save>("save", "complete file", 3, SAME, inputs::complete),
-    together::<Save>("save", "every second position held", 3, SAME, inputs::every_second),
-    together::<Load>("load", "complete file", 3, SAME, inputs::complete_record),
-    together::<Load>("load", "every second position held", 3, SAME, inputs::every_second_record),
-    together::<Entry>("read entry", "figure 3.2, with all values of its header", 200, UNCHANGED, inputs::figure),
-];
+pub fn rows() -> Vec<Row> {
+    vec![
+        together::<Remainder>("remainder", "253 bytes", 200, UNCHANGED, inputs::longest_content),
+        together::<Remainder>("remainder", "1 byte: the cost of the call", 10_000, UNCHANGED, inputs::one_byte),
+        together::<Open>("open", "L 32,768", 30, SAME, inputs::opened),
+        alone::<Take>("take", "fresh: 244 bytes, from a map byte's start on", inputs::fresh),
+        alone::<Take>("take", "fresh: 244 bytes, from inside a map byte on", inputs::fresh_inside),
+        together::<Take>("take", "repeat: the same 244 bytes again", 100, SAME, inputs::repeat),
+        alone::<Take>("take", "overlapping: half of the 244 bytes held", inputs::overlapping),
+        alone::<Take>("take", "whole file: 135 pieces of 32,768 bytes", inputs::whole_file),
+        alone::<Join>("join", "disjoint: first half, second half", inputs::halves),
+        together::<Join>("join", "equal: both hold everything", 3, SAME, inputs::both_whole),
+        alone::<Join>("join", "alternate: even positions, odd positions", inputs::even_and_odd),
+        together::<List>("list all", "no hole: complete file", 20, UNCHANGED, inputs::complete),
+        together::<List>("list all", "1 hole: opened", 20, UNCHANGED, inputs::opened),
+        together::<List>("list all", "16,384 holes: every second position held", 1, UNCHANGED, inputs::every_second),
+        together::<Request>("request all", "1 hole: opened", 20, SAME, inputs::one_hole),
+        together::<Request>("request all", "16,384 holes: every second position held", 1, SAME, inputs::every_second),
+        together::<Save>("save", "complete file", 3, SAME, inputs::complete),
+        together::<Save>("save", "every second position held", 3, SAME, inputs::every_second),
+        together::<Load>("load", "complete file", 3, SAME, inputs::complete_record),
+        together::<Load>("load", "every second position held", 3, SAME, inputs::every_second_record),
+        together::<Entry>("read entry", "figure 3.2, with all values of its header", 200, UNCHANGED, inputs::figure),
+    ]
+}

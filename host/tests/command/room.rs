@@ -30,6 +30,19 @@ impl Room {
         Room { folder }
     }
 
+    /// A folder beside it with the command under its name, for the shell. Where the tests are run by an emulator, so
+    /// is the command.
+    fn program(&self) -> PathBuf {
+        let folder = self.folder.with_extension("bin");
+        fs::create_dir_all(&folder).expect("a folder for the command");
+        let runner = std::env::var("THOWELDECK_RUNNER").unwrap_or_default();
+        let script = format!("#!/bin/sh\nexec {runner} '{}' \"$@\"\n", env!("CARGO_BIN_EXE_thoweldeck"));
+        fs::write(folder.join("thoweldeck"), script).expect("the command");
+        let ran = Command::new("chmod").arg("+x").arg(folder.join("thoweldeck")).status();
+        assert!(ran.expect("chmod").success());
+        folder
+    }
+
     /// The path of a file in the folder.
     pub fn path(&self, name: &str) -> PathBuf {
         self.folder.join(name)
@@ -37,14 +50,20 @@ impl Room {
 
     /// Runs the command with words.
     pub fn run(&self, words: &[&str]) -> Ran {
-        let mut command = Command::new(env!("CARGO_BIN_EXE_thoweldeck"));
+        let mut command = match std::env::var_os("THOWELDECK_RUNNER") {
+            None => Command::new(env!("CARGO_BIN_EXE_thoweldeck")),
+            Some(runner) => {
+                let mut command = Command::new(runner);
+                command.arg(env!("CARGO_BIN_EXE_thoweldeck"));
+                command
+            }
+        };
         ran(command.args(words).current_dir(&self.folder).output())
     }
 
     /// Runs a line of the shell, in which `thoweldeck` is the command; errors stand among what is printed.
     pub fn shell(&self, line: &str) -> Ran {
-        let program = Path::new(env!("CARGO_BIN_EXE_thoweldeck")).parent().expect("a folder").to_path_buf();
-        let path = format!("{}:{}", program.display(), std::env::var("PATH").unwrap_or_default());
+        let path = format!("{}:{}", self.program().display(), std::env::var("PATH").unwrap_or_default());
         let mut command = Command::new("sh");
         let line = format!("exec 2>&1; {line}");
         ran(command.args(["-c", &line]).env("PATH", path).current_dir(&self.folder).output())
@@ -79,6 +98,7 @@ impl Room {
 impl Drop for Room {
     fn drop(&mut self) {
         let _ = fs::remove_dir_all(&self.folder);
+        let _ = fs::remove_dir_all(self.folder.with_extension("bin"));
     }
 }
 
