@@ -5,7 +5,7 @@ use mathlib.Core.Bool.{Bool, true, false, not, _&&_, _||_}
 use mathlib.Core.Logic.{⊎-elim}
 use mathlib.Core.List.{List}
 use Prim.Native.Nat.{ℕ, _+_, _-_, _*_, _/_, _%_, _^_, _≤_, _<_}
-use native.Mathlib.Nat.{zero-add}
+use native.Mathlib.Nat.{zero-add, sub-zero}
 use native.Mathlib.Omega.{arith}
 use lib.Bits.{bitOr, bitAnd}
 use lib.Count.{ones}
@@ -18,7 +18,7 @@ use Rattle.positions.specs.Map.{isSet, held}
 use Rattle.positions.proofs.BitLaws.{set-none, set-and, set-low}
 use Rattle.positions.proofs.SpanLaws.{every-same, all-at, part-fails}
 use Rattle.positions.proofs.MapLaws.{held-in}
-use Rattle.reception.specs.Inner.{bytesAgree, bothAgree, MapRun, BufferRun}
+use Rattle.reception.specs.Inner.{bitAgrees, bothAgree, MapRun, BufferRun}
 use Rattle.reception.proofs.MarkLaws.{run-nothing, run-then, run-told, run-byte, fresh-is, later-same}
 use Rattle.reception.proofs.CopyLaws.{copy-nothing, copy-then, copy-told}
 
@@ -29,34 +29,24 @@ bit-of m from q a l g = let e : from / 8 * 8 + (q - from) ≡ q = omega arith in
 -- ---- agreeing
 module _ (m b o d : List ℕ) where
   pub byte-agrees : (from end : ℕ) → from % 8 ≡ 0 → from ≤ end → end ≤ from + 8
-      → every (bytesAgree (bitAnd (byteAt m (from / 8)) (byteAt o (from / 8))) b d from) from (end - from) ≡ every (bothAgree m b o d) from (end - from)
+      → every (bitAgrees (bitAnd (byteAt m (from / 8)) (byteAt o (from / 8))) b 0 d from) from (end - from) ≡ every (bothAgree m b o d) from (end - from)
   byte-agrees from end a low high =
-      every-same (bytesAgree (bitAnd (byteAt m (from / 8)) (byteAt o (from / 8))) b d from) (bothAgree m b o d) from (end - from)
-      (λ q l g. ap (λ (w : Bool). not w || eqb (byteAt b q) (byteAt d q)) (set-and (byteAt m (from / 8)) (byteAt o (from / 8)) (q - from) ∙ ap₂ _&&_ (bit-of m from q a l (omega arith)) (bit-of o from q a l (omega arith))))
+      every-same (bitAgrees (bitAnd (byteAt m (from / 8)) (byteAt o (from / 8))) b 0 d from) (bothAgree m b o d) from (end - from)
+      (λ q l g. ap₂ (λ (w : Bool) (x : ℕ). not w || eqb (byteAt b q) (byteAt d x)) (set-and (byteAt m (from / 8)) (byteAt o (from / 8)) (q - from) ∙ ap₂ _&&_ (bit-of m from q a l (omega arith)) (bit-of o from q a l (omega arith))) (sub-zero q))
 
   pub byte-fails : (from end n : ℕ) → from % 8 ≡ 0 → from ≤ end → end ≤ from + 8 → end ≤ n
-      → every (bytesAgree (bitAnd (byteAt m (from / 8)) (byteAt o (from / 8))) b d from) from (end - from) ≡ false → every (bothAgree m b o d) 0 n ≡ false
+      → every (bitAgrees (bitAnd (byteAt m (from / 8)) (byteAt o (from / 8))) b 0 d from) from (end - from) ≡ false → every (bothAgree m b o d) 0 n ≡ false
   byte-fails from end n a low high h e =
       part-fails (bothAgree m b o d) 0 n from (end - from) (omega arith) (omega arith) (sym (byte-agrees from end a low high) ∙ e)
 
   pub byte-passes : (from end : ℕ) → from % 8 ≡ 0 → from ≤ end → end ≤ from + 8
-      → every (bytesAgree (bitAnd (byteAt m (from / 8)) (byteAt o (from / 8))) b d from) from (end - from) ≡ true
+      → every (bitAgrees (bitAnd (byteAt m (from / 8)) (byteAt o (from / 8))) b 0 d from) from (end - from) ≡ true
       → ((q : ℕ) → 0 ≤ q → q < from → bothAgree m b o d q ≡ true) → (q : ℕ) → 0 ≤ q → q < end → bothAgree m b o d q ≡ true
   byte-passes from end a low high e before q l g =
       ⊎-elim
       (λ h. all-at (bothAgree m b o d) from (end - from) (sym (byte-agrees from end a low high) ∙ e) q h (omega arith))
       (λ h. before q l h)
       (le-or-lt from q)
-
--- no bit is set, and nothing is compared
-pub none-compared : (both : ℕ) (b d : List ℕ) (from q : ℕ) → both ≡ 0 → bytesAgree both b d from q ≡ true
-none-compared both b d from q e = rw (e, set-none (q - from))
-
-pub bit-free : (both : ℕ) (b d : List ℕ) (from q : ℕ) → isSet both (q - from) ≡ false → bytesAgree both b d from q ≡ true
-bit-free both b d from q e = rw e
-
-pub bit-compared : (both : ℕ) (b d : List ℕ) (from q : ℕ) → isSet both (q - from) ≡ true → eqb (byteAt b q) (byteAt d q) ≡ bytesAgree both b d from q
-bit-compared both b d from q e = rw e
 
 -- ---- adding one byte
 module _ (m : List ℕ) (theirs from end : ℕ) (a : from % 8 ≡ 0) (low : from ≤ end) (high : end ≤ from + 8) (h : from / 8 < length m) (all : AllBytes m) (small : theirs < 2 ^ (end - from)) where

@@ -1,5 +1,6 @@
 pub mod MarkLaws
 pub mod CopyLaws
+pub mod EightLaws
 pub mod JoinSteps
 pub mod Steps
 pub mod SideLaws

@@ -28,13 +28,17 @@ emptyAhead map p = cond (eqb (p % 8) 0 && eqb (byteAt map (p / 8)) 0) 8 1
 abbrev pub spanAt : ℕ → ℕ → ℕ
 spanAt p end = cond (eqb (p % 8) 0 && leb (p + 8) end) 8 1
 
--- position p is not held, or has the byte of a piece whose first position is at
-abbrev pub pieceAgrees : List ℕ → List ℕ → ℕ → List ℕ → ℕ → Bool
-pieceAgrees map buffer at piece p = not (held map p) || eqb (byteAt buffer p) (byteAt piece (p - at))
+-- position p of a buffer has the byte of a piece whose first position is at
+abbrev pub sameAt : List ℕ → ℕ → List ℕ → ℕ → Bool
+sameAt buffer at piece p = eqb (byteAt buffer p) (byteAt piece (p - at))
 
--- where bit p - from of a byte is set, position p has the same byte in both buffers
-abbrev pub bytesAgree : ℕ → List ℕ → List ℕ → ℕ → ℕ → Bool
-bytesAgree both buffer bytes from p = not (isSet both (p - from)) || eqb (byteAt buffer p) (byteAt bytes p)
+-- position p is not held, or has the byte of the piece
+abbrev pub pieceAgrees : List ℕ → List ℕ → ℕ → List ℕ → ℕ → Bool
+pieceAgrees map buffer at piece p = not (held map p) || sameAt buffer at piece p
+
+-- bit p - from of a byte is not set, or position p has the byte of the piece
+abbrev pub bitAgrees : ℕ → List ℕ → ℕ → List ℕ → ℕ → ℕ → Bool
+bitAgrees asked buffer at piece from p = not (isSet asked (p - from)) || sameAt buffer at piece p
 
 -- a position that both maps hold has the same byte in both buffers
 abbrev pub bothAgree : List ℕ → List ℕ → List ℕ → List ℕ → ℕ → Bool

@@ -1,5 +1,6 @@
 // Joining a second reception into a first: whether they agree, and the second's positions copied.
 use super::bits;
+use super::eights;
 ghost use mathlib.Core.Path.{_≡_};
 ghost use mathlib.Core.Bool.{_&&_, not};
 ghost use Prim.Native.Nat.{_+_, _-_, _*_, _/_, _%_, _^_, _≤_, _<_};
@@ -7,7 +8,7 @@ ghost use lib.ListN.{length};
 ghost use Rattle.positions.specs.Spans.{every, upTo};
 ghost use Rattle.positions.specs.Map.{held, isSet};
 ghost use Rattle.reception.specs.Reception.{longest};
-ghost use Rattle.reception.specs.Inner.{bytesAgree, bothAgree, MapRun, BufferRun};
+ghost use Rattle.reception.specs.Inner.{bothAgree, MapRun, BufferRun};
 
 // Where the positions of a byte that are below n end.
 fn byte_end(from: usize, n: usize) -> usize
@@ -15,36 +16,6 @@ fn byte_end(from: usize, n: usize) -> usize
     ensures { λ r. ⌜ r ≡ upTo from n ⌝ }
 {
     if from + 8 <= n { from + 8 } else { n }
-}
-
-// Whether position p, where its bit in `both` is set, has the same byte in both buffers.
-fn agrees_at(both: u8, buffer: &[u8], bytes: &[u8], from: usize, p: usize) -> bool
-    requires { ⌜ (from ≤ p) × (p < from + 8) × (p < length (now buffer)) × (p < length (now bytes)) ⌝ }
-    ensures { λ r. ⌜ r ≡ bytesAgree both (now (buffer .entry)) (now (bytes .entry)) from p ⌝ }
-{
-    if !bits::is_set(both, p - from) {
-        return true;
-    }
-    buffer[p] == bytes[p]
-}
-
-// Whether two buffers agree at those positions from `from` on and below `end` whose bit is set in
-// `both`.
-fn agree_byte(both: u8, buffer: &[u8], bytes: &[u8], from: usize, end: usize) -> bool
-    requires { ⌜ (from ≤ end) × (end ≤ from + 8) × (end ≤ length (now buffer)) × (end ≤ length (now bytes)) ⌝ }
-    ensures { λ r. ⌜ r ≡ every (bytesAgree both (now (buffer .entry)) (now (bytes .entry)) from) from (end - from) ⌝ }
-{
-    if both == 0 {
-        return true;
-    }
-    let mut p = from;
-    while p < end {
-        if !agrees_at(both, buffer, bytes, from, p) {
-            return false;
-        }
-        p += 1;
-    }
-    true
 }
 
 // Whether two receptions agree at each position below n that both hold. Bytes of the maps with no such
@@ -57,7 +28,7 @@ pub(crate) fn agree(map: &[u8], buffer: &[u8], other: &[u8], bytes: &[u8], n: us
     while p < n {
         let both = map[p / 8] & other[p / 8];
         let end = byte_end(p, n);
-        if !agree_byte(both, buffer, bytes, p, end) {
+        if !eights::agree_byte(both, buffer, 0, bytes, p, end) {
             return false;
         }
         p = end;

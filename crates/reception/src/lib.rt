@@ -8,6 +8,7 @@
 // `specs/Joining.antt`, `specs/Listing.antt` and `specs/Held.antt`; what a sequence of pieces and joins leaves is in
 // `proofs/Demand3.antt`, what a listed hole is in `proofs/HoleLaws.antt`.
 mod bits;
+mod eights;
 mod joins;
 mod pieces;
 mod space;

@@ -44,7 +44,7 @@ aligned : (c : tie.After-byte-end Inv-loop μ-loop) → L c .loop .p % 8 ≡ 0
 aligned c = L c .loop .inv .1 (c .before .before .before .loop-test .taken)
 
 agree-byte-requires : tie.Need-agree-byte-requires Inv-loop μ-loop
-agree-byte-requires c κs = let w = inside c in (omega (arith, w), omega (arith, w), omega (arith, w), omega (arith, w))
+agree-byte-requires c κs = let w = inside c in (omega arith, omega (arith, w), omega (arith, w), omega (arith, w), omega (arith, w))
 
 returns : tie.Need-returns Inv-loop μ-loop
 returns c =

@@ -1,11 +1,11 @@
--- `reception::joins::agrees_at` meets its contract: where the bit is set, the bytes are compared.
+-- `reception::eights::agrees_at` meets its contract: where the bit is set, the bytes are compared.
 -- Assumes nothing.
 use mathlib.Core.Path.{sym, _∙_}
 use borrow.Author.Tests.{not-true, not-false}
 use borrow.Author.Needs.{needs}
-use Rattle.reception.proofs.JoinSteps.{bit-free, bit-compared}
-use Rattle.reception.proofs.joins.agrees_at.Statement.{statement}
-use Rattle.reception.proofs.joins.agrees_at.Tie as tie
+use Rattle.reception.proofs.EightLaws.{bit-free, bit-compared}
+use Rattle.reception.proofs.eights.agrees_at.Statement.{statement}
+use Rattle.reception.proofs.eights.agrees_at.Tie as tie
 
 sub-is-set : tie.Need-sub-is-set
 sub-is-set c = search needs
@@ -17,10 +17,13 @@ returns : tie.Need-returns
 returns c =
     let s = c .before .before .before .before in
     sym
-    (bit-free (s .args .both) (s .args .buffer .now) (s .args .bytes .now) (s .args .from) (s .args .p) (sym (c .before .is-set .ensures) ∙ not-true (c .before .is-set .result) (c .if1 .taken)))
+    (bit-free (s .args .asked) (s .args .buffer .now) (s .args .at) (s .args .piece .now) (s .args .from) (s .args .p) (sym (c .before .is-set .ensures) ∙ not-true (c .before .is-set .result) (c .if1 .taken)))
 
 shared-slice-read-result : tie.Need-shared-slice-read-result
 shared-slice-read-result c = search needs
+
+sub-result : tie.Need-sub-result
+sub-result c = search needs
 
 shared-slice-read-result-2 : tie.Need-shared-slice-read-result-2
 shared-slice-read-result-2 c = search needs
@@ -28,7 +31,7 @@ shared-slice-read-result-2 c = search needs
 returns-2 : tie.Need-returns-2
 returns-2 c =
     let s = c .before .before .before .before .before .before in
-    bit-compared (s .args .both) (s .args .buffer .now) (s .args .bytes .now) (s .args .from) (s .args .p)
+    bit-compared (s .args .asked) (s .args .buffer .now) (s .args .at) (s .args .piece .now) (s .args .from) (s .args .p)
     (sym (c .before .before .before .is-set .ensures) ∙ not-false (c .before .before .before .is-set .result) (c .before .before .if1 .left))
 
 pub agrees-at-spec : {M : Type 1} → statement M
@@ -39,5 +42,6 @@ agrees-at-spec =
     is-set-requires
     returns
     shared-slice-read-result
+    sub-result
     shared-slice-read-result-2
     returns-2)

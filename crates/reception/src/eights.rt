@@ -1,0 +1,63 @@
+// Eight positions of a map byte at once. A loop of eight turns without a test in it becomes a few
+// instructions over all eight bytes.
+use super::bits;
+ghost use mathlib.Core.Path.{_≡_};
+ghost use Prim.Native.Nat.{_+_, _-_, _≤_, _<_};
+ghost use lib.ListN.{length};
+ghost use Rattle.positions.specs.Spans.{every};
+ghost use Rattle.reception.specs.Inner.{sameAt, bitAgrees};
+
+// Whether the eight positions from p on have the bytes of the piece that is put at a position.
+fn same_eight(buffer: &[u8], at: usize, piece: &[u8], p: usize) -> bool
+    requires { ⌜ (at ≤ p) × (p + 8 ≤ length (now buffer)) × (p + 8 ≤ at + length (now piece)) ⌝ }
+    ensures { λ r. ⌜ r ≡ every (sameAt (now (buffer .entry)) at (now (piece .entry))) p 8 ⌝ }
+{
+    let mut same = true;
+    let mut k = 0;
+    while k < 8 {
+        same = same & (buffer[p + k] == piece[p + k - at]);
+        k += 1;
+    }
+    same
+}
+
+// Whether position p, where its bit in `asked` is set, has the byte of the piece that is put at a
+// position.
+fn agrees_at(asked: u8, buffer: &[u8], at: usize, piece: &[u8], from: usize, p: usize) -> bool
+    requires { ⌜ (from ≤ p) × (p < from + 8) × (at ≤ p) × (p < length (now buffer)) × (p < at + length (now piece)) ⌝ }
+    ensures { λ r. ⌜ r ≡ bitAgrees asked (now (buffer .entry)) at (now (piece .entry)) from p ⌝ }
+{
+    if !bits::is_set(asked, p - from) {
+        return true;
+    }
+    buffer[p] == piece[p - at]
+}
+
+// Whether those positions from `from` on and below `end` whose bit is set in `asked` have the bytes of
+// the piece that is put at a position.
+pub(crate) fn agree_byte(
+    asked: u8,
+    buffer: &[u8],
+    at: usize,
+    piece: &[u8],
+    from: usize,
+    end: usize,
+) -> bool
+    requires { ⌜ (at ≤ from) × (from ≤ end) × (end ≤ from + 8) × (end ≤ length (now buffer)) × (end ≤ at + length (now piece)) ⌝ }
+    ensures { λ r. ⌜ r ≡ every (bitAgrees asked (now (buffer .entry)) at (now (piece .entry)) from) from (end - from) ⌝ }
+{
+    if asked == 0 {
+        return true;
+    }
+    if (asked == 255) & (end - from == 8) {
+        return same_eight(buffer, at, piece, from);
+    }
+    let mut p = from;
+    while p < end {
+        if !agrees_at(asked, buffer, at, piece, from, p) {
+            return false;
+        }
+        p += 1;
+    }
+    true
+}
