@@ -2,17 +2,18 @@
 -- Assumes nothing.
 use mathlib.Core.Path.{_≡_, refl, sym, ap, _∙_}
 use mathlib.Core.Bool.{Bool, true, false, not, _&&_, and-assoc, and-true}
+use mathlib.Core.Logic.{⊎-elim}
 use mathlib.Core.List.{List}
-use Prim.Native.Nat.{ℕ, zero, suc, _+_, _-_, _<_}
+use Prim.Native.Nat.{ℕ, zero, suc, _+_, _-_, _≤_, _<_}
 use native.Mathlib.Nat.{suc-add, add-suc, add-zero}
 use native.Mathlib.Omega.{arith}
 use lib.Dec.{lit<, eqb}
 use borrow.Author.Tests.{eqb-true}
-use Rattle.reason.proofs.Bools.{and-left, and-right}
+use Rattle.reason.proofs.Bools.{and-left, and-right, le-or-lt}
 use Rattle.positions.specs.Spans.{every}
 use Rattle.positions.specs.Map.{isSet}
 use Rattle.positions.proofs.BitLaws.{set-none, set-not}
-use Rattle.positions.proofs.SpanLaws.{every-same}
+use Rattle.positions.proofs.SpanLaws.{every-same, all-at}
 use Rattle.reception.specs.Inner.{sameAt, bitAgrees}
 
 -- no position, and one more behind the others
@@ -27,6 +28,11 @@ every-more test p (suc n) =
     rw (suc-add n 1, add-suc p n)
     (and-assoc (test p) (every test (suc p) n) (test (suc (p + n)))
     ∙ ap (λ (b : Bool). test p && b) (ap (λ (q : ℕ). every test (suc p) n && test q) (sym (suc-add p n)) ∙ every-more test (suc p) n))
+
+-- some more, behind those that pass
+pub then-pass : (test : ℕ → Bool) (at p end : ℕ) → p ≤ end → every test p (end - p) ≡ true → ((q : ℕ) → at ≤ q → q < p → test q ≡ true)
+    → (q : ℕ) → at ≤ q → q < end → test q ≡ true
+then-pass test at p end h e before q l g = ⊎-elim (λ a. all-at test p (end - p) e q a (omega arith)) (λ a. before q l a) (le-or-lt p q)
 
 -- the test for a byte with every bit set and all eight positions there
 pub whole : (b n : ℕ) → (eqb b 255 && eqb n 8) ≡ true → (b ≡ 255) × (n ≡ 8)

@@ -2,7 +2,6 @@
 -- Assumes nothing.
 use mathlib.Core.Path.{_≡_, sym, ap, ap₂, _∙_, subst}
 use mathlib.Core.Bool.{Bool, true, false, not, _&&_, _||_}
-use mathlib.Core.Logic.{⊎-elim}
 use mathlib.Core.List.{List}
 use Prim.Native.Nat.{ℕ, _+_, _-_, _*_, _/_, _%_, _^_, _≤_, _<_}
 use native.Mathlib.Nat.{zero-add, sub-zero}
@@ -11,14 +10,14 @@ use lib.Bits.{bitOr, bitAnd}
 use lib.Count.{ones}
 use lib.Dec.{eqb}
 use lib.ListN.{length, set}
-use Rattle.reason.proofs.Bools.{le-or-lt}
 use Rattle.octets.specs.Numbers.{byteAt, AllBytes}
 use Rattle.positions.specs.Spans.{every}
 use Rattle.positions.specs.Map.{isSet, held}
 use Rattle.positions.proofs.BitLaws.{set-none, set-and, set-low}
-use Rattle.positions.proofs.SpanLaws.{every-same, all-at, part-fails}
+use Rattle.positions.proofs.SpanLaws.{every-same, part-fails}
 use Rattle.positions.proofs.MapLaws.{held-in}
 use Rattle.reception.specs.Inner.{bitAgrees, bothAgree, MapRun, BufferRun}
+use Rattle.reception.proofs.EightLaws.{then-pass}
 use Rattle.reception.proofs.MarkLaws.{run-nothing, run-then, run-told, run-byte, fresh-is, later-same}
 use Rattle.reception.proofs.CopyLaws.{copy-nothing, copy-then, copy-told}
 
@@ -42,11 +41,8 @@ module _ (m b o d : List ℕ) where
   pub byte-passes : (from end : ℕ) → from % 8 ≡ 0 → from ≤ end → end ≤ from + 8
       → every (bitAgrees (bitAnd (byteAt m (from / 8)) (byteAt o (from / 8))) b 0 d from) from (end - from) ≡ true
       → ((q : ℕ) → 0 ≤ q → q < from → bothAgree m b o d q ≡ true) → (q : ℕ) → 0 ≤ q → q < end → bothAgree m b o d q ≡ true
-  byte-passes from end a low high e before q l g =
-      ⊎-elim
-      (λ h. all-at (bothAgree m b o d) from (end - from) (sym (byte-agrees from end a low high) ∙ e) q h (omega arith))
-      (λ h. before q l h)
-      (le-or-lt from q)
+  byte-passes from end a low high e before =
+      then-pass (bothAgree m b o d) 0 from end low (sym (byte-agrees from end a low high) ∙ e) before
 
 -- ---- adding one byte
 module _ (m : List ℕ) (theirs from end : ℕ) (a : from % 8 ≡ 0) (low : from ≤ end) (high : end ≤ from + 8) (h : from / 8 < length m) (all : AllBytes m) (small : theirs < 2 ^ (end - from)) where

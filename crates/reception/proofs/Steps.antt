@@ -1,19 +1,21 @@
 -- Steps of one position or of eight, and what they pass over.
 -- Assumes nothing.
 use mathlib.Core.Path.{_≡_, refl, sym, ap, _∙_, subst}
-use mathlib.Core.Bool.{Bool, true, false, cond, _&&_}
+use mathlib.Core.Bool.{Bool, true, false, cond, not, _&&_, _||_}
 use mathlib.Core.Logic.{_⊎_, inl, inr, ⊎-elim}
 use mathlib.Core.List.{List}
-use Prim.Native.Nat.{ℕ, _+_, _-_, _/_, _%_, _≤_, _<_}
+use Prim.Native.Nat.{ℕ, _+_, _-_, _*_, _/_, _%_, _^_, _≤_, _<_}
 use native.Mathlib.Omega.{arith}
 use lib.Dec.{eqb, leb}
 use borrow.Author.Tests.{eqb-true, leb-true, leb-false}
 use Rattle.reason.proofs.Bools.{le-or-lt}
 use Rattle.octets.specs.Numbers.{byteAt}
-use Rattle.positions.specs.Spans.{upTo}
-use Rattle.positions.specs.Map.{held}
-use Rattle.positions.proofs.MapLaws.{empty-byte}
-use Rattle.reception.specs.Inner.{emptyAhead, spanAt, pieceAgrees, MapRun, BufferRun}
+use Rattle.positions.specs.Spans.{every, upTo}
+use Rattle.positions.specs.Map.{isSet, held}
+use Rattle.positions.proofs.BitLaws.{set-shr}
+use Rattle.positions.proofs.SpanLaws.{every-same}
+use Rattle.positions.proofs.MapLaws.{held-by}
+use Rattle.reception.specs.Inner.{spanAt, sameAt, pieceAgrees, bitAgrees, MapRun, BufferRun}
 use Rattle.reception.proofs.MarkLaws.{run-then}
 use Rattle.reception.proofs.CopyLaws.{copy-then}
 
@@ -32,42 +34,19 @@ eight-or-one true true = inl (refl, refl, refl)
 eight-or-one true false = inr refl
 eight-or-one false b = inr refl
 
--- ---- over an empty byte
-pub ahead-some : (m : List ℕ) (p : ℕ) → (1 ≤ emptyAhead m p) × (emptyAhead m p ≤ 8)
-ahead-some m p =
-    ⊎-elim
-    (λ w. let e = w .2 in (omega (arith, e), omega (arith, e)))
-    (λ e. (omega (arith, e), omega (arith, e)))
-    (eight-or-one (eqb (p % 8) 0) (eqb (byteAt m (p / 8)) 0))
+-- ---- what is left of a map byte from position p on, bit by bit
+rest-of : (m : List ℕ) (p q : ℕ) → p ≤ q → q < p / 8 * 8 + 8 → isSet (byteAt m (p / 8) / 2 ^ (p % 8)) (q - p) ≡ held m q
+rest-of m p q l g =
+    let a : p / 8 ≡ q / 8 = omega arith in
+    let b : p % 8 + (q - p) ≡ q % 8 = omega arith in
+    set-shr (byteAt m (p / 8)) (p % 8) (q - p) ∙ rw (b, a) (sym (held-by m q))
 
-pub ahead-free : (m : List ℕ) (p q : ℕ) → p < q → q < p + emptyAhead m p → held m q ≡ false
-ahead-free m p q l g =
-    ⊎-elim
-    (λ w. empty m p q (eqb-true (p % 8) 0 (w .0)) (eqb-true (byteAt m (p / 8)) 0 (w .1)) l (let e = w .2 in omega (arith, e, g)))
-    (λ e. absurd (nothing p q (emptyAhead m p) e l g))
-    (eight-or-one (eqb (p % 8) 0) (eqb (byteAt m (p / 8)) 0))
-  where
-    nothing : (p q k : ℕ) → k ≡ 1 → p < q → q < p + k → ⊥
-    nothing p q k e l g = omega arith
-
-    empty : (m : List ℕ) (p q : ℕ) → p % 8 ≡ 0 → byteAt m (p / 8) ≡ 0 → p < q → q < p + 8 → held m q ≡ false
-    empty m p q a z l g = let same : q / 8 ≡ p / 8 = omega arith in empty-byte m q (ap (byteAt m) same ∙ z)
-
--- ---- a piece agrees so far
-module _ (m b : List ℕ) (at : ℕ) (d : List ℕ) where
-  pub free-agrees : (p : ℕ) → held m p ≡ false → pieceAgrees m b at d p ≡ true
-  free-agrees p e = rw e
-
-  pub held-agrees : (p : ℕ) → held m p ≡ true → eqb (byteAt b p) (byteAt d (p - at)) ≡ pieceAgrees m b at d p
-  held-agrees p e = rw e
-
-  pub agrees-on : (p : ℕ) → ((q : ℕ) → at ≤ q → q < p → pieceAgrees m b at d q ≡ true) → pieceAgrees m b at d p ≡ true
-      → (q : ℕ) → at ≤ q → q < p + emptyAhead m p → pieceAgrees m b at d q ≡ true
-  agrees-on p before here q l g =
-      ⊎-elim
-      (λ a. ⊎-elim (λ c. let e : p ≡ q = omega arith in ap (pieceAgrees m b at d) (sym e) ∙ here) (λ c. free-agrees q (ahead-free m p q c g)) (le-or-lt q p))
-      (λ a. before q l a)
-      (le-or-lt p q)
+-- a piece agrees at those positions
+pub rest-agrees : (m b : List ℕ) (at : ℕ) (d : List ℕ) (p end : ℕ) → p ≤ end → end ≤ p / 8 * 8 + 8
+    → every (bitAgrees (byteAt m (p / 8) / 2 ^ (p % 8)) b at d p) p (end - p) ≡ every (pieceAgrees m b at d) p (end - p)
+rest-agrees m b at d p end low high =
+    every-same (bitAgrees (byteAt m (p / 8) / 2 ^ (p % 8)) b at d p) (pieceAgrees m b at d) p (end - p)
+    (λ q l g. ap (λ (w : Bool). not w || sameAt b at d q) (rest-of m p q l (omega arith)))
 
 -- ---- over a whole byte below an end
 pub span-eight : (p end : ℕ) → spanAt p end ≡ 8 → (p % 8 ≡ 0) × (p + 8 ≤ end)
@@ -120,6 +99,14 @@ end-within p n end is h =
     (λ w. let a = w .0 in let e = w .1 in (omega (arith, is, e), omega (arith, is, e), omega (arith, is, a, e)))
     (λ w. let a = w .0 in let e = w .1 in (omega (arith, is, h, e), omega (arith, is, a, e), omega (arith, is, e)))
     (end-cases p n)
+
+-- .. of the byte that a position is in
+pub rest-within : (p n end : ℕ) → end ≡ upTo (p / 8 * 8) n → p < n → (p < end) × (end ≤ p / 8 * 8 + 8) × (end ≤ n)
+rest-within p n end is h =
+    ⊎-elim
+    (λ w. let a = w .0 in let e = w .1 in (omega (arith, is, e), omega (arith, is, e), omega (arith, is, a, e)))
+    (λ w. let a = w .0 in let e = w .1 in (omega (arith, is, h, e), omega (arith, is, a, e), omega (arith, is, e)))
+    (end-cases (p / 8 * 8) n)
 
 pub end-aligned : (p n end : ℕ) → end ≡ upTo p n → p % 8 ≡ 0 → end < n → end % 8 ≡ 0
 end-aligned p n end is a h =

@@ -4,7 +4,7 @@
 use mathlib.Core.Path.{_≡_}
 use mathlib.Core.Bool.{Bool, true, false, cond, not, _&&_, _||_}
 use mathlib.Core.List.{List}
-use Prim.Native.Nat.{ℕ, _+_, _-_, _*_, _/_, _%_, _<_}
+use Prim.Native.Nat.{ℕ, _+_, _-_, _*_, _%_, _<_}
 use lib.Dec.{eqb, leb}
 use lib.ListN.{length}
 use Rattle.octets.specs.Runs.{putIn}
@@ -19,10 +19,6 @@ onSide map side p = cond side (held map p) (not (held map p))
 -- the byte whose set bits are those on the side
 abbrev pub sideOf : ℕ → Bool → ℕ
 sideOf b side = cond side b (255 - b)
-
--- 8 where an empty byte starts at p, else 1
-abbrev pub emptyAhead : List ℕ → ℕ → ℕ
-emptyAhead map p = cond (eqb (p % 8) 0 && eqb (byteAt map (p / 8)) 0) 8 1
 
 -- 8 where a whole byte below the end starts at p, else 1
 abbrev pub spanAt : ℕ → ℕ → ℕ

@@ -4,8 +4,17 @@ use super::bits;
 ghost use mathlib.Core.Path.{_≡_};
 ghost use Prim.Native.Nat.{_+_, _-_, _≤_, _<_};
 ghost use lib.ListN.{length};
-ghost use Rattle.positions.specs.Spans.{every};
+ghost use Rattle.positions.specs.Spans.{every, upTo};
+ghost use Rattle.reception.specs.Reception.{longest};
 ghost use Rattle.reception.specs.Inner.{sameAt, bitAgrees};
+
+// Where the positions of a byte that are below n end.
+pub(crate) fn byte_end(from: usize, n: usize) -> usize
+    requires { ⌜ from < longest ⌝ }
+    ensures { λ r. ⌜ r ≡ upTo from n ⌝ }
+{
+    if from + 8 <= n { from + 8 } else { n }
+}
 
 // Whether the eight positions from p on have the bytes of the piece that is put at a position.
 fn same_eight(buffer: &[u8], at: usize, piece: &[u8], p: usize) -> bool

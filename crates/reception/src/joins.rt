@@ -5,18 +5,10 @@ ghost use mathlib.Core.Path.{_≡_};
 ghost use mathlib.Core.Bool.{_&&_, not};
 ghost use Prim.Native.Nat.{_+_, _-_, _*_, _/_, _%_, _^_, _≤_, _<_};
 ghost use lib.ListN.{length};
-ghost use Rattle.positions.specs.Spans.{every, upTo};
+ghost use Rattle.positions.specs.Spans.{every};
 ghost use Rattle.positions.specs.Map.{held, isSet};
 ghost use Rattle.reception.specs.Reception.{longest};
 ghost use Rattle.reception.specs.Inner.{bothAgree, MapRun, BufferRun};
-
-// Where the positions of a byte that are below n end.
-fn byte_end(from: usize, n: usize) -> usize
-    requires { ⌜ from < longest ⌝ }
-    ensures { λ r. ⌜ r ≡ upTo from n ⌝ }
-{
-    if from + 8 <= n { from + 8 } else { n }
-}
 
 // Whether two receptions agree at each position below n that both hold. Bytes of the maps with no such
 // position are passed over.
@@ -27,7 +19,7 @@ pub(crate) fn agree(map: &[u8], buffer: &[u8], other: &[u8], bytes: &[u8], n: us
     let mut p = 0;
     while p < n {
         let both = map[p / 8] & other[p / 8];
-        let end = byte_end(p, n);
+        let end = eights::byte_end(p, n);
         if !eights::agree_byte(both, buffer, 0, bytes, p, end) {
             return false;
         }
@@ -102,7 +94,7 @@ pub(crate) fn add(map: &mut [u8], buffer: &mut [u8], other: &[u8], bytes: &[u8],
     let mut new = 0;
     let mut p = 0;
     while p < n {
-        let end = byte_end(p, n);
+        let end = eights::byte_end(p, n);
         let theirs = lowest(other[p / 8], end - p);
         new += add_byte(map, buffer, theirs, bytes, p, end);
         p = end;

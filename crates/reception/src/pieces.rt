@@ -1,38 +1,16 @@
 // Taking a piece in: whether it agrees with what is held, and its positions marked.
 use super::bits;
+use super::eights;
 ghost use mathlib.Core.Path.{_≡_};
 ghost use mathlib.Core.Bool.{true};
 ghost use Prim.Native.Nat.{_+_, _*_, _/_, _≤_, _<_};
 ghost use lib.ListN.{length};
 ghost use Rattle.positions.specs.Spans.{every};
 ghost use Rattle.reception.specs.Reception.{longest};
-ghost use Rattle.reception.specs.Inner.{pieceAgrees, spanAt, emptyAhead, MapRun, AllOrNothing};
+ghost use Rattle.reception.specs.Inner.{pieceAgrees, spanAt, MapRun, AllOrNothing};
 
-// How many positions from p on are looked at in one step: 8 where an empty byte starts at p, else 1.
-fn ahead(map: &[u8], p: usize) -> usize
-    requires { ⌜ p / 8 < length (now map) ⌝ }
-    ensures { λ r. ⌜ r ≡ emptyAhead (now (map .entry)) p ⌝ }
-{
-    if p % 8 == 0 {
-        if map[p / 8] == 0 {
-            return 8;
-        }
-    }
-    1
-}
-
-// Whether position p is not held, or has the byte of the piece that is put at a position.
-fn agrees_at(map: &[u8], buffer: &[u8], at: usize, piece: &[u8], p: usize) -> bool
-    requires { ⌜ (at ≤ p) × (p < at + length (now piece)) × (p / 8 < length (now map)) × (p < length (now buffer)) ⌝ }
-    ensures { λ r. ⌜ r ≡ pieceAgrees (now (map .entry)) (now (buffer .entry)) at (now (piece .entry)) p ⌝ }
-{
-    if !bits::test(map, p) {
-        return true;
-    }
-    buffer[p] == piece[p - at]
-}
-
-// Whether the piece, put at a position, agrees with every byte that is held.
+// Whether the piece, put at a position, agrees with every byte that is held. A map byte
+// is looked at once.
 pub(crate) fn agree(map: &[u8], buffer: &[u8], at: usize, piece: &[u8]) -> bool
     requires { ⌜ (at + length (now piece) ≤ longest) × (at + length (now piece) ≤ length (now map) * 8) × (at + length (now piece) ≤ length (now buffer)) ⌝ }
     ensures { λ r. ⌜ r ≡ every (pieceAgrees (now (map .entry)) (now (buffer .entry)) at (now (piece .entry))) at (length (now (piece .entry))) ⌝ }
@@ -40,10 +18,11 @@ pub(crate) fn agree(map: &[u8], buffer: &[u8], at: usize, piece: &[u8]) -> bool
     let end = at + piece.len();
     let mut p = at;
     while p < end {
-        if !agrees_at(map, buffer, at, piece, p) {
+        let next = eights::byte_end(p / 8 * 8, end);
+        if !eights::agree_byte(map[p / 8] >> (p % 8), buffer, at, piece, p, next) {
             return false;
         }
-        p += ahead(map, p);
+        p = next;
     }
     true
 }

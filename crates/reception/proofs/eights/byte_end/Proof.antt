@@ -1,12 +1,12 @@
--- `reception::joins::byte_end` meets its contract: eight positions further, or n.
+-- `reception::eights::byte_end` meets its contract: eight positions further, or n.
 -- Assumes nothing.
 use mathlib.Core.Path.{sym, ap}
 use mathlib.Core.Bool.{Bool, cond}
 use Prim.Native.Nat.{_+_}
 use borrow.Author.Tests.{le-leb, lt-leb}
 use borrow.Author.Needs.{needs}
-use Rattle.reception.proofs.joins.byte_end.Statement.{statement}
-use Rattle.reception.proofs.joins.byte_end.Tie as tie
+use Rattle.reception.proofs.eights.byte_end.Statement.{statement}
+use Rattle.reception.proofs.eights.byte_end.Tie as tie
 
 add-if1 : tie.Need-add-if1
 add-if1 c = search needs
