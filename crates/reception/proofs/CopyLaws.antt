@@ -11,7 +11,7 @@ use lib.Dec.{eqb}
 use borrow.Author.Tests.{eqb-true, eqb-false}
 use Rattle.octets.specs.Numbers.{byteAt}
 use Rattle.positions.specs.Spans.{within}
-use Rattle.positions.proofs.SpanLaws.{in-span, before-span, behind-span, by-span, span-join, span-one}
+use Rattle.positions.proofs.SpanLaws.{in-span, before-span, behind-span, by-span, no-between, span-join, span-one}
 use Rattle.reception.specs.Inner.{BufferRun}
 
 pub copy-nothing : (new : ℕ → Bool) (from b : List ℕ) (p n : ℕ) → ((q : ℕ) → p ≤ q → q < p + n → new q ≡ false) → BufferRun new from b p n b
@@ -23,18 +23,23 @@ copy-nothing new from b p n none = record {
       (λ g. rw (behind-span p n q g));
 }
 
-one-by : (new : ℕ → Bool) (from b : List ℕ) (p q : ℕ) → p < length b → new p ≡ true → (w : Bool) → eqb q p ≡ w
-    → byteAt (set b p (byteAt from p)) q ≡ cond (w && new q) (byteAt from q) (byteAt b q)
-one-by new from b p q h there true e =
-    let s : q ≡ p = eqb-true q p e in
-    rw (s, there) (getD-set-same b p (byteAt from p) 0 h)
-one-by new from b p q h there false e = getD-set-other b p q (byteAt from p) 0 (eqb-false q p e)
+-- .. of no position
+pub copy-none : (new : ℕ → Bool) (from b : List ℕ) (p : ℕ) → BufferRun new from b p 0 b
+copy-none new from b p = copy-nothing new from b p 0 (λ q l g. absurd (no-between p q l (omega arith)))
 
-pub copy-one : (new : ℕ → Bool) (from b : List ℕ) (p : ℕ) → p < length b → new p ≡ true → BufferRun new from b p 1 (set b p (byteAt from p))
-copy-one new from b p h there = record {
-  long = length-set b p (byteAt from p);
+one-by : (new : ℕ → Bool) (from b : List ℕ) (p q : ℕ) → p < length b → (w : Bool) → eqb q p ≡ w
+    → byteAt (set b p (cond (new p) (byteAt from p) (byteAt b p))) q ≡ cond (w && new q) (byteAt from q) (byteAt b q)
+one-by new from b p q h true e =
+    let s : q ≡ p = eqb-true q p e in
+    rw s (getD-set-same b p (cond (new p) (byteAt from p) (byteAt b p)) 0 h)
+one-by new from b p q h false e = getD-set-other b p q (cond (new p) (byteAt from p) (byteAt b p)) 0 (eqb-false q p e)
+
+pub copy-one : (new : ℕ → Bool) (from b : List ℕ) (p : ℕ) → p < length b
+    → BufferRun new from b p 1 (set b p (cond (new p) (byteAt from p) (byteAt b p)))
+copy-one new from b p h = record {
+  long = length-set b p (cond (new p) (byteAt from p) (byteAt b p));
   bytes =
-      λ q _. one-by new from b p q h there (eqb q p) refl ∙ ap (λ (w : Bool). cond (w && new q) (byteAt from q) (byteAt b q)) (sym (span-one p q));
+      λ q _. one-by new from b p q h (eqb q p) refl ∙ ap (λ (w : Bool). cond (w && new q) (byteAt from q) (byteAt b q)) (sym (span-one p q));
 }
 
 -- a run behind another

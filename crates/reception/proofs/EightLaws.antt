@@ -1,4 +1,4 @@
--- The positions of a map byte, compared where a bit is set.
+-- The positions of a map byte, compared and copied where a bit is set.
 -- Assumes nothing.
 use mathlib.Core.Path.{_≡_, refl, sym, ap, _∙_}
 use mathlib.Core.Bool.{Bool, true, false, not, _&&_, and-assoc, and-true}
@@ -14,7 +14,8 @@ use Rattle.positions.specs.Spans.{every}
 use Rattle.positions.specs.Map.{isSet}
 use Rattle.positions.proofs.BitLaws.{set-none, set-not}
 use Rattle.positions.proofs.SpanLaws.{every-same, all-at}
-use Rattle.reception.specs.Inner.{sameAt, bitAgrees}
+use Rattle.reception.specs.Inner.{sameAt, bitAgrees, BufferRun}
+use Rattle.reception.proofs.CopyLaws.{copy-told}
 
 -- no position, and one more behind the others
 pub every-none : (test : ℕ → Bool) (p : ℕ) → every test p 0 ≡ true
@@ -58,3 +59,10 @@ module _ (asked : ℕ) (b : List ℕ) (at : ℕ) (d : List ℕ) (from : ℕ) whe
   all-asked n e l =
       rw l
       (every-same (sameAt b at d) (bitAgrees asked b at d from) from 8 (λ q g h. bit-compared q (ap (λ (x : ℕ). isSet x (q - from)) e ∙ full (q - from) (omega arith))))
+
+-- .. and all are copied
+pub all-copied : (asked : ℕ) (d b : List ℕ) (from n : ℕ) (b′ : List ℕ) → asked ≡ 255 → n ≡ 8 → BufferRun (λ q. true) d b from 8 b′
+    → BufferRun (λ q. isSet asked (q - from)) d b from n b′
+all-copied asked d b from n b′ e l run =
+    rw l
+    (copy-told (λ q. true) d b from 8 b′ run (λ q. isSet asked (q - from)) (λ q g h. sym (ap (λ (x : ℕ). isSet x (q - from)) e ∙ full (q - from) (omega arith))))

@@ -2,11 +2,13 @@
 // instructions over all eight bytes.
 use super::bits;
 ghost use mathlib.Core.Path.{_≡_};
+ghost use mathlib.Core.Bool.{true, cond};
 ghost use Prim.Native.Nat.{_+_, _-_, _≤_, _<_};
 ghost use lib.ListN.{length};
 ghost use Rattle.positions.specs.Spans.{every, upTo};
+ghost use Rattle.positions.specs.Map.{isSet};
 ghost use Rattle.reception.specs.Reception.{longest};
-ghost use Rattle.reception.specs.Inner.{sameAt, bitAgrees};
+ghost use Rattle.reception.specs.Inner.{sameAt, bitAgrees, BufferRun};
 
 // Where the positions of a byte that are below n end.
 pub(crate) fn byte_end(from: usize, n: usize) -> usize
@@ -69,4 +71,63 @@ pub(crate) fn agree_byte(
         p += 1;
     }
     true
+}
+
+// One of two bytes. Both are there, so that choosing needs no jump.
+fn pick(first: bool, a: u8, b: u8) -> u8
+    ensures { λ r. ⌜ r ≡ cond first a b ⌝ }
+{
+    if first { a } else { b }
+}
+
+// Copies the byte of position p where its bit in `asked` is set; else the byte is written as it is.
+fn copy_at(buffer: &mut [u8], bytes: &[u8], asked: u8, from: usize, p: usize)
+    requires { ⌜ (from ≤ p) × (p < from + 8) × (p < length (now buffer)) × (p < length (now bytes)) ⌝ }
+    ensures { λ _. ⌜ BufferRun (λ q. isSet asked (q - from)) (now (bytes .entry)) (now (buffer .entry)) p 1 (now (buffer .exit)) ⌝ }
+{
+    buffer[p] = pick(bits::is_set(asked, p - from), bytes[p], buffer[p]);
+}
+
+// Copies the bytes of the eight positions from p on.
+fn copy_eight(buffer: &mut [u8], bytes: &[u8], p: usize)
+    requires { ⌜ (p + 8 ≤ length (now buffer)) × (p + 8 ≤ length (now bytes)) ⌝ }
+    ensures { λ _. ⌜ BufferRun (λ q. true) (now (bytes .entry)) (now (buffer .entry)) p 8 (now (buffer .exit)) ⌝ }
+{
+    let mut k = 0;
+    while k < 8 {
+        buffer[p + k] = bytes[p + k];
+        k += 1;
+    }
+}
+
+// Copies the bytes of those of the eight positions from p on whose bit is set in `asked`.
+fn copy_some(buffer: &mut [u8], bytes: &[u8], asked: u8, p: usize)
+    requires { ⌜ (p + 8 ≤ length (now buffer)) × (p + 8 ≤ length (now bytes)) ⌝ }
+    ensures { λ _. ⌜ BufferRun (λ q. isSet asked (q - p)) (now (bytes .entry)) (now (buffer .entry)) p 8 (now (buffer .exit)) ⌝ }
+{
+    let mut k = 0;
+    while k < 8 {
+        copy_at(buffer, bytes, asked, p, p + k);
+        k += 1;
+    }
+}
+
+// Copies the bytes of those positions from `from` on and below `end` whose bit is set in `asked`.
+pub(crate) fn copy_byte(buffer: &mut [u8], bytes: &[u8], asked: u8, from: usize, end: usize)
+    requires { ⌜ (from ≤ end) × (end ≤ from + 8) × (end ≤ length (now buffer)) × (end ≤ length (now bytes)) ⌝ }
+    ensures { λ _. ⌜ BufferRun (λ q. isSet asked (q - from)) (now (bytes .entry)) (now (buffer .entry)) from (end - from) (now (buffer .exit)) ⌝ }
+{
+    if (asked == 255) & (end - from == 8) {
+        copy_eight(buffer, bytes, from);
+        return;
+    }
+    if end - from == 8 {
+        copy_some(buffer, bytes, asked, from);
+        return;
+    }
+    let mut p = from;
+    while p < end {
+        copy_at(buffer, bytes, asked, from, p);
+        p += 1;
+    }
 }

@@ -39,28 +39,6 @@ fn lowest(b: u8, k: usize) -> u8
     b & ((1 << k) - 1)
 }
 
-// Copies the byte of position p where its bit in `new` is set.
-fn copy_at(buffer: &mut [u8], bytes: &[u8], new: u8, from: usize, p: usize)
-    requires { ⌜ (from ≤ p) × (p < from + 8) × (p < length (now buffer)) × (p < length (now bytes)) ⌝ }
-    ensures { λ _. ⌜ BufferRun (λ q. isSet new (q - from)) (now (bytes .entry)) (now (buffer .entry)) p 1 (now (buffer .exit)) ⌝ }
-{
-    if bits::is_set(new, p - from) {
-        buffer[p] = bytes[p];
-    }
-}
-
-// Copies the bytes of those positions from `from` on and below `end` whose bit is set in `new`.
-fn copy(buffer: &mut [u8], bytes: &[u8], new: u8, from: usize, end: usize)
-    requires { ⌜ (from ≤ end) × (end ≤ from + 8) × (end ≤ length (now buffer)) × (end ≤ length (now bytes)) ⌝ }
-    ensures { λ _. ⌜ BufferRun (λ q. isSet new (q - from)) (now (bytes .entry)) (now (buffer .entry)) from (end - from) (now (buffer .exit)) ⌝ }
-{
-    let mut p = from;
-    while p < end {
-        copy_at(buffer, bytes, new, from, p);
-        p += 1;
-    }
-}
-
 // Copies what only the second reception holds of the positions from `from` on and below `end`, which are
 // of one map byte; `theirs` is that byte of the second's map without other positions. How many they are.
 fn add_byte(
@@ -81,7 +59,7 @@ fn add_byte(
         return 0;
     }
     map[from / 8] = have | theirs;
-    copy(buffer, bytes, new, from, end);
+    eights::copy_byte(buffer, bytes, new, from, end);
     bits::count_set(new)
 }
 

@@ -35,8 +35,8 @@ returns c =
 slice-write-map : tie.Need-slice-write-map
 slice-write-map c = search needs
 
-copy-requires : tie.Need-copy-requires
-copy-requires c κs = search needs
+copy-byte-requires : tie.Need-copy-byte-requires
+copy-byte-requires c κs = search needs
 
 count-set-requires : tie.Need-count-set-requires
 count-set-requires c κs = search needs
@@ -57,7 +57,7 @@ returns-2 c =
           (sym (c .count-set .ensures))
           (byte-held (x .map .now) (x .theirs) (x .from) (x .end) (s .pre .0) (s .pre .1) (s .pre .2) (s .pre .3) all (s .pre .6)),
       byte-copied (x .map .now) (x .theirs) (x .from) (x .end) (s .pre .0) (s .pre .1) (s .pre .2) (s .pre .3) all (s .pre .6) (x .bytes .now)
-          (x .buffer .now) _ (c .before .before .before .copy .ensures),
+          (x .buffer .now) _ (c .before .before .before .copy-byte .ensures),
     )
 
 pub add-byte-spec : {M : Type 1} → statement M
@@ -68,7 +68,7 @@ add-byte-spec =
     sub-new
     returns
     slice-write-map
-    copy-requires
+    copy-byte-requires
     count-set-requires
     same-length
     same-length-2
