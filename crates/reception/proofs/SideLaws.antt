@@ -6,22 +6,37 @@ use mathlib.Core.Logic.{⊎-elim}
 use mathlib.Core.List.{List}
 use Prim.Native.Nat.{ℕ, _+_, _-_, _*_, _/_, _%_, _^_, _≤_, _<_}
 use native.Mathlib.Omega.{arith}
+use lib.Dec.{eqb}
+use borrow.Author.Tests.{not-false, eqb-true}
 use Rattle.reason.proofs.Bools.{le-or-lt}
 use Rattle.octets.specs.Numbers.{byteAt, AllBytes}
 use Rattle.positions.specs.Spans.{first}
 use Rattle.positions.specs.Map.{isSet}
 use Rattle.positions.proofs.BitLaws.{set-not, set-shr, set-high}
 use Rattle.positions.proofs.SpanLaws.{passed-over, found, first-is}
-use Rattle.positions.proofs.MapLaws.{held-by}
-use Rattle.reception.specs.Inner.{onSide, sideOf}
+use Rattle.positions.proofs.MapLaws.{held-by, empty-byte, full-byte}
+use Rattle.reception.specs.Inner.{onSide, sideOf, noneOf}
 
 -- no position is below n and not below it
 nothing : (n from : ℕ) → from ≤ n → n < from + (n - from) → ⊥
 nothing n from l a = omega arith
 
+-- nothing found
+pub not-found : (test : ℕ → Bool) (from n p : ℕ) → from ≤ n → n ≤ p → ((q : ℕ) → from ≤ q → q < p → test q ≡ false) → n ≡ first test from (n - from)
+not-found test from n p l g before =
+    sym (first-is test from (n - from) n l (omega arith) (λ q a b. before q a (omega arith)) (λ a. absurd (nothing n from l a)))
+
 side-small : (b : ℕ) (side : Bool) → b < 256 → sideOf b side < 256
 side-small b true h = h
 side-small b false h = omega arith
+
+-- a byte that no position of the side is in
+none-there : (m : List ℕ) (side : Bool) (q : ℕ) → byteAt m (q / 8) ≡ noneOf side → onSide m side q ≡ false
+none-there m true q e = empty-byte m q e
+none-there m false q e = ap not (full-byte m q e)
+
+other-than : (a b : ℕ) → not (eqb a b) ≡ false → a ≡ b
+other-than a b e = eqb-true a b (not-false (eqb a b) e)
 
 module _ (m : List ℕ) (all : AllBytes m) where
   side-bit : (side : Bool) (q : ℕ) → isSet (sideOf (byteAt m (q / 8)) side) (q % 8) ≡ onSide m side q
@@ -69,14 +84,13 @@ module _ (m : List ℕ) (all : AllBytes m) where
             (first-is (onSide m side) from (n - from) (p + k) (omega arith) (omega arith) (up-to h) (λ _. sym (rest-is k (inside h)) ∙ found-set h))
 
         pub stops-short : (n : ℕ) → k < 8 → from ≤ n → n ≤ p + k → n ≡ first (onSide m side) from (n - from)
-        stops-short n h l g =
-            sym (first-is (onSide m side) from (n - from) n l (omega arith) (λ q a b. up-to h q a (omega arith)) (λ a. absurd (nothing n from l a)))
+        stops-short n h l g = not-found (onSide m side) from n (p + k) l g (up-to h)
 
-        pub goes-on : 8 ≤ k → (q : ℕ) → from ≤ q → q < p / 8 * 8 + 8 → onSide m side q ≡ false
-        goes-on h q l g = ⊎-elim (λ a. passed q a (omega arith) g) (λ a. before q l a) (le-or-lt p q)
-
-  -- nothing found
-  pub ends : (side : Bool) (from n p : ℕ) → from ≤ n → n ≤ p → ((q : ℕ) → from ≤ q → q < p → onSide m side q ≡ false)
-      → n ≡ first (onSide m side) from (n - from)
-  ends side from n p l g before =
-      sym (first-is (onSide m side) from (n - from) n l (omega arith) (λ q a b. before q a (omega arith)) (λ a. absurd (nothing n from l a)))
+        -- the rest of the byte, and the bytes behind it that have no position on the side
+        pub goes-on : 8 ≤ k → (end j : ℕ) → j ≡ first (λ i. not (eqb (byteAt m i) (noneOf side))) (p / 8 + 1) (end - (p / 8 + 1))
+            → (q : ℕ) → from ≤ q → q < j * 8 → onSide m side q ≡ false
+        goes-on h end j is q l g =
+            ⊎-elim
+            (λ a. none-there m side q (other-than (byteAt m (q / 8)) (noneOf side) (passed-over (λ i. not (eqb (byteAt m i) (noneOf side))) (p / 8 + 1) (end - (p / 8 + 1)) (q / 8) (omega arith) (omega (arith, is)))))
+            (λ a. ⊎-elim (λ b. passed q b (omega arith) a) (λ b. before q l b) (le-or-lt p q))
+            (le-or-lt (p / 8 * 8 + 8) q)

@@ -20,6 +20,10 @@ onSide map side p = cond side (held map p) (not (held map p))
 abbrev pub sideOf : ℕ → Bool → ℕ
 sideOf b side = cond side b (255 - b)
 
+-- the map byte of which no position is on the side
+abbrev pub noneOf : Bool → ℕ
+noneOf side = cond side 0 255
+
 -- 8 where a whole byte below the end starts at p, else 1
 abbrev pub spanAt : ℕ → ℕ → ℕ
 spanAt p end = cond (eqb (p % 8) 0 && leb (p + 8) end) 8 1

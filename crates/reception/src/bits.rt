@@ -1,15 +1,16 @@
 // Positions of a map: bit p mod 8, counted from the low end, of byte p / 8; set means held.
 ghost use mathlib.Core.Path.{_≡_};
-ghost use mathlib.Core.Bool.{_||_, cond};
+ghost use mathlib.Core.Bool.{_||_, not, cond};
 ghost use Prim.Native.Nat.{_+_, _-_, _*_, _/_, _^_, _≤_, _<_};
 ghost use lib.ListN.{length};
 ghost use lib.Dec.{eqb};
 ghost use lib.Count.{ones};
+ghost use Rattle.octets.specs.Numbers.{byteAt};
 ghost use Rattle.positions.specs.Spans.{count, first};
 ghost use Rattle.positions.specs.Map.{held, isSet, mapOf};
 ghost use Rattle.reception.specs.Reception.{longest};
 ghost use Rattle.reception.specs.Holes.{holeStart};
-ghost use Rattle.reception.specs.Inner.{onSide, sideOf};
+ghost use Rattle.reception.specs.Inner.{onSide, sideOf, noneOf};
 
 // Whether a bit of a byte is set.
 pub(crate) fn is_set(b: u8, k: usize) -> bool
@@ -95,8 +96,31 @@ fn lowest_set(b: u8) -> usize
     u32::trailing_zeros(b as u32) as usize
 }
 
+// The map byte of which no position is on the side.
+fn none_of(side: bool) -> u8
+    ensures { λ r. ⌜ r ≡ noneOf side ⌝ }
+{
+    if side { 0 } else { 255 }
+}
+
+// The first index from i on and below m whose byte is another than b; m where there is none.
+fn other_than(map: &[u8], i: usize, m: usize, b: u8) -> usize
+    requires { ⌜ (i ≤ m) × (m ≤ length (now map)) ⌝ }
+    ensures { λ r. ⌜ r ≡ first (λ j. not (eqb (byteAt (now (map .entry)) j) b)) i (m - i) ⌝ }
+{
+    let mut j = i;
+    while j < m {
+        if map[j] != b {
+            return j;
+        }
+        j += 1;
+    }
+    m
+}
+
 // The first position from `from` on and below n that is held, or where `side` is false, that is not
-// held; n where there is none. A map byte is looked at once.
+// held; n where there is none. A map byte is looked at once, and those without such a position are
+// passed over in a loop of their own.
 pub(crate) fn first(map: &[u8], from: usize, n: usize, side: bool) -> usize
     requires { ⌜ (from ≤ n) × (n ≤ longest) × (n ≤ length (now map) * 8) ⌝ }
     ensures { λ r. ⌜ r ≡ first (onSide (now (map .entry)) side) from (n - from) ⌝ }
@@ -107,7 +131,7 @@ pub(crate) fn first(map: &[u8], from: usize, n: usize, side: bool) -> usize
         if k < 8 {
             return if p + k < n { p + k } else { n };
         }
-        p = p / 8 * 8 + 8;
+        p = other_than(map, p / 8 + 1, (n + 7) / 8, none_of(side)) * 8;
     }
     n
 }

@@ -1,14 +1,16 @@
 -- `reception::bits::first` meets its contract: each byte is looked at once, and what is passed over is on the other side.
 -- Assumes nothing.
-use mathlib.Core.Path.{_≡_, ap}
-use mathlib.Core.Bool.{false}
+use mathlib.Core.Path.{_≡_, ap, _∙_}
+use mathlib.Core.Bool.{Bool, false, not}
 use Prim.Native.Nat.{ℕ, _+_, _-_, _/_, _%_, _^_, _≤_, _<_}
 use native.Mathlib.Omega.{arith}
+use lib.Dec.{eqb}
 use borrow.Author.Needs.{needs}
 use Rattle.octets.specs.Numbers.{byteAt, AllBytes}
-use Rattle.positions.proofs.SpanLaws.{no-between}
-use Rattle.reception.specs.Inner.{onSide, sideOf}
-use Rattle.reception.proofs.SideLaws.{stops, stops-short, goes-on, ends}
+use Rattle.positions.specs.Spans.{first}
+use Rattle.positions.proofs.SpanLaws.{first-from, first-by, no-between}
+use Rattle.reception.specs.Inner.{onSide, sideOf, noneOf}
+use Rattle.reception.proofs.SideLaws.{stops, stops-short, goes-on, not-found}
 use Rattle.reception.proofs.bits.first.Statement.{statement}
 use Rattle.reception.proofs.bits.first.Tie as tie
 
@@ -68,29 +70,61 @@ returns-2 c =
     stops-short (S d .args .map .now) (all d) (S d .args .side) (L d .loop .p) _ (rest d) (d .lowest-set .result) (d .lowest-set .ensures)
     (S d .args .from) (L d .loop .inv .0) (L d .loop .inv .2) (S d .args .n) (c .before .if1 .taken) (omega arith) (omega arith)
 
-mul-p : tie.Need-mul-p Inv-loop μ-loop
-mul-p c = omega arith
+add-other-than : tie.Need-add-other-than Inv-loop μ-loop
+add-other-than c = omega arith
 
-add-p : tie.Need-add-p Inv-loop μ-loop
-add-p c = omega arith
+add-other-than-2 : tie.Need-add-other-than-2 Inv-loop μ-loop
+add-other-than-2 c = omega arith
+
+none-of-requires : tie.Need-none-of-requires Inv-loop μ-loop
+none-of-requires c κs = search needs
+
+other-than-requires : tie.Need-other-than-requires Inv-loop μ-loop
+other-than-requires c κs = (omega arith, omega arith)
+
+abbrev D : tie.After-other-than Inv-loop μ-loop → tie.After-lowest-set Inv-loop μ-loop
+D c = c .before .before .before
+
+-- the next byte that has a position on the side
+next : (c : tie.After-other-than Inv-loop μ-loop)
+    → c .other-than .result ≡ first (λ i. not (eqb (byteAt (S (D c) .args .map .now) i) (noneOf (S (D c) .args .side)))) (L (D c) .loop .p / 8 + 1) ((S (D c) .args .n + 7) / 8 - (L (D c) .loop .p / 8 + 1))
+next c =
+    let m = S (D c) .args .map .now in
+    let i = L (D c) .loop .p / 8 + 1 in
+    c .other-than .ensures
+    ∙ ap (λ (b : ℕ). first (λ j. not (eqb (byteAt m j) b)) i ((S (D c) .args .n + 7) / 8 - i)) (c .before .none-of .ensures)
+
+further : (c : tie.After-other-than Inv-loop μ-loop)
+    → (L (D c) .loop .p / 8 + 1 ≤ c .other-than .result) × (c .other-than .result ≤ (S (D c) .args .n + 7) / 8)
+further c =
+    let test : ℕ → Bool = λ i. not (eqb (byteAt (S (D c) .args .map .now) i) (noneOf (S (D c) .args .side))) in
+    let i = L (D c) .loop .p / 8 + 1 in
+    let a = first-from test i ((S (D c) .args .n + 7) / 8 - i) in
+    let b = first-by test i ((S (D c) .args .n + 7) / 8 - i) in
+    let e = next c in
+    (omega (arith, a, e), omega (arith, b, e))
+
+mul-p : tie.Need-mul-p Inv-loop μ-loop
+mul-p c = let f = further c in omega (arith, f)
 
 loop-less : tie.Need-loop-less Inv-loop μ-loop
-loop-less c = omega arith
+loop-less c = let f = further c in omega (arith, f)
 
 loop-again : tie.Need-loop-again Inv-loop μ-loop
 loop-again c =
-    let d = c .before in (
-      omega arith,
-      omega arith,
+    let d = D c in
+    let f = further c in (
+      omega (arith, f),
+      omega (arith, f),
       goes-on (S d .args .map .now) (all d) (S d .args .side) (L d .loop .p) _ (rest d) (d .lowest-set .result) (d .lowest-set .ensures)
-          (S d .args .from) (L d .loop .inv .0) (L d .loop .inv .2) (omega arith),
+          (S d .args .from) (L d .loop .inv .0) (L d .loop .inv .2) (omega arith) _ (c .other-than .result) (next c),
     )
 
 returns-3 : tie.Need-returns-3 Inv-loop μ-loop
 returns-3 c =
     let s = c .before .before .before in
-    ends (s .args .map .now) (λ i. c .before .before .shared-slice-known .given i .fits) (s .args .side) (s .args .from) (s .args .n)
-    (c .before .loop .p) (omega arith) (omega arith) (c .before .loop .inv .2)
+    not-found (onSide (s .args .map .now) (s .args .side)) (s .args .from) (s .args .n) (c .before .loop .p) (omega arith) (omega arith)
+    (c .before .loop .inv .2)
 
 pub first-spec : {M : Type 1} → statement M
 first-spec =
@@ -108,8 +142,11 @@ first-spec =
     add-result
     returns
     returns-2
+    add-other-than
+    add-other-than-2
+    none-of-requires
+    other-than-requires
     mul-p
-    add-p
     loop-less
     loop-again
     returns-3)
