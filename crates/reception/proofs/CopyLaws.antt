@@ -1,15 +1,19 @@
 -- Laws of runs of bytes that are copied: nothing, one byte, and two runs one after the other.
 -- Assumes nothing.
-use mathlib.Core.Path.{_≡_, refl, sym, ap, _∙_}
+use mathlib.Core.Path.{_≡_, refl, sym, ap, _∙_, subst}
 use mathlib.Core.Bool.{Bool, true, false, cond, _&&_, _||_}
 use mathlib.Core.List.{List}
-use Prim.Native.Nat.{ℕ, _+_, _≤_, _<_}
+use Prim.Native.Nat.{ℕ, _+_, _-_, _≤_, _<_}
 use native.Mathlib.Omega.{arith}
 use lib.ListN.{length, set, length-set}
 use lib.Seq.{getD-set-same, getD-set-other}
 use lib.Dec.{eqb}
 use borrow.Author.Tests.{eqb-true, eqb-false}
 use Rattle.octets.specs.Numbers.{byteAt}
+use Rattle.octets.specs.Values.{valuesFrom}
+use Rattle.octets.specs.Runs.{putIn, Put}
+use Rattle.octets.proofs.ValueLaws.{value-at, values-long}
+use Rattle.octets.proofs.RunLaws.{put-fits, put-length, put-before, put-within, put-after}
 use Rattle.positions.specs.Spans.{within}
 use Rattle.positions.proofs.SpanLaws.{in-span, before-span, behind-span, by-span, no-between, span-join, span-one}
 use Rattle.reception.specs.Inner.{BufferRun}
@@ -72,3 +76,27 @@ module _ (new : ℕ → Bool) (from b : List ℕ) (p n : ℕ) (b′ : List ℕ) 
         ∙ then-by (within p n q) (within (p + n) k q) (new q) (byteAt from q) (byteAt b q)
         ∙ ap (λ (w : Bool). cond (w && new q) (byteAt from q) (byteAt b q)) (span-join p n k q);
   }
+
+-- a run of bytes that stand at the same places is written
+module _ (d b : List ℕ) (p n : ℕ) (x : List ℕ) (h : p + n ≤ length b) (is : x ≡ valuesFrom (λ k. byteAt d (p + k)) 0 n) where
+  size : length x ≡ n
+  size = ap length is ∙ values-long (λ k. byteAt d (p + k)) 0 n
+
+  room : p + length x ≤ length b
+  room = let e = size in omega arith
+
+  put-copies : BufferRun (λ q. true) d b p n (putIn b p x)
+  put-copies = record {
+    long = put-length b p x room;
+    bytes = λ q _. by-span p n q
+        (λ l g. let e : p + (q - p) ≡ q = omega arith in
+        let s = size in
+        rw (in-span p n q l g) (ap (byteAt (putIn b p x)) (sym e) ∙ put-within b p x room (q - p) (omega arith) ∙ ap (λ (y : List ℕ). byteAt y (q - p)) is ∙ value-at (λ k. byteAt d (p + k)) 0 n (q - p) (omega arith) ∙ ap (byteAt d) e))
+        (λ g. rw (before-span p n q g) (put-before b p x room q g))
+        (λ g. let s = size in
+        let e : p + length x + (q - (p + length x)) ≡ q = omega arith in
+        rw (behind-span p n q g) (ap (byteAt (putIn b p x)) (sym e) ∙ put-after b p x room (q - (p + length x)) ∙ ap (byteAt b) e));
+  }
+
+  pub copy-put : (r : Bool) (b′ : List ℕ) → Put b p x r b′ → BufferRun (λ q. true) d b p n b′
+  copy-put r b′ told = subst (λ (y : List ℕ). BufferRun (λ q. true) d b p n y) (sym (put-fits b p x r b′ told room .1)) put-copies

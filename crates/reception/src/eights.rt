@@ -5,6 +5,8 @@ ghost use mathlib.Core.Path.{_≡_};
 ghost use mathlib.Core.Bool.{true, cond};
 ghost use Prim.Native.Nat.{_+_, _-_, _≤_, _<_};
 ghost use lib.ListN.{length};
+ghost use Rattle.octets.specs.Numbers.{byteAt};
+ghost use Rattle.octets.specs.Values.{valuesFrom};
 ghost use Rattle.positions.specs.Spans.{every, upTo};
 ghost use Rattle.positions.specs.Map.{isSet};
 ghost use Rattle.reception.specs.Reception.{longest};
@@ -88,16 +90,31 @@ fn copy_at(buffer: &mut [u8], bytes: &[u8], asked: u8, from: usize, p: usize)
     buffer[p] = pick(bits::is_set(asked, p - from), bytes[p], buffer[p]);
 }
 
-// Copies the bytes of the eight positions from p on.
+// The eight bytes from p on.
+fn eight_of(bytes: &[u8], p: usize) -> [u8; 8]
+    requires { ⌜ p + 8 ≤ length (now bytes) ⌝ }
+    ensures { λ r. ⌜ r ≡ valuesFrom (λ k. byteAt (now (bytes .entry)) (p + k)) 0 8 ⌝ }
+{
+    [
+        bytes[p],
+        bytes[p + 1],
+        bytes[p + 2],
+        bytes[p + 3],
+        bytes[p + 4],
+        bytes[p + 5],
+        bytes[p + 6],
+        bytes[p + 7],
+    ]
+}
+
+// Copies the bytes of the eight positions from p on. All are read before one is written: a compiler that
+// does not know that the buffers lie apart can then move them at once.
 fn copy_eight(buffer: &mut [u8], bytes: &[u8], p: usize)
     requires { ⌜ (p + 8 ≤ length (now buffer)) × (p + 8 ≤ length (now bytes)) ⌝ }
     ensures { λ _. ⌜ BufferRun (λ q. true) (now (bytes .entry)) (now (buffer .entry)) p 8 (now (buffer .exit)) ⌝ }
 {
-    let mut k = 0;
-    while k < 8 {
-        buffer[p + k] = bytes[p + k];
-        k += 1;
-    }
+    let eight = eight_of(bytes, p);
+    octets::put(buffer, p, &eight);
 }
 
 // Copies the bytes of those of the eight positions from p on whose bit is set in `asked`.
