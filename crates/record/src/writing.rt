@@ -79,15 +79,13 @@ fn put_map(map: &[u8], l: usize, target: &mut [u8], at: usize)
 }
 
 // The byte of position p where it is held, by its bit in the byte of the eight positions from `from` on,
-// and else 0.
+// and else 0. The byte is read before the test, so that the choice needs no branch.
 fn saved_at(b: u8, buffer: &[u8], from: usize, p: usize) -> u8
     requires { ⌜ (from ≤ p) × (p < from + 8) × (p < length (now buffer)) ⌝ }
     ensures { λ r. ⌜ r ≡ byteSaved b (now (buffer .entry)) from p ⌝ }
 {
-    if (b >> (p - from)) & 1 == 1 {
-        return buffer[p];
-    }
-    0
+    let byte = buffer[p];
+    if (b >> (p - from)) & 1 == 1 { byte } else { 0 }
 }
 
 // Writes the bytes of the positions from `from` on and below `end`, by their bits in a byte, into the target:
