@@ -1,77 +1,59 @@
 -- Laws of writing a record: the values of a rule written one run behind the other, and the bytes of its map.
 -- Assumes nothing.
-use mathlib.Core.Path.{_≡_, refl, sym, ap, ap₂, _∙_}
+use mathlib.Core.Path.{_≡_, sym, ap, ap₂, _∙_}
 use mathlib.Core.Bool.{Bool, true, false, cond, _&&_}
 use mathlib.Core.Logic.{⊎-elim}
-use mathlib.Core.List.{List, [], _∷_, _++_}
-use Prim.Native.Nat.{ℕ, zero, suc, _+_, _-_, _*_, _/_, _%_, _^_, _≤_, _<_}
-use native.Mathlib.Nat.{sub-zero, zero-add, add-zero, suc-add, add-suc, mod-le, mod-lt}
-use native.Mathlib.Numerals.{add-one}
+use mathlib.Core.List.{List, [], _∷_}
+use Prim.Native.Nat.{ℕ, _+_, _-_, _*_, _/_, _%_, _^_, _≤_, _<_}
+use native.Mathlib.Nat.{zero-add, mod-le, mod-lt}
 use native.Mathlib.Omega.{arith}
-use lib.ListN.{length, set, take, drop}
+use lib.ListN.{length, set}
 use lib.Pow.{pow-pos}
-use lib.Seq.{set-split, append-snoc}
 use borrow.Author.Tests.{eqb-true, eqb-false, lt-ltb, le-ltb}
 use Rattle.reason.proofs.Bools.{le-or-lt}
 use Rattle.octets.specs.Numbers.{byteAt}
 use Rattle.octets.specs.Values.{valuesFrom}
 use Rattle.octets.specs.Runs.{putIn}
 use Rattle.octets.proofs.ValueLaws.{values-long, values-alike}
-use Rattle.octets.proofs.RunLaws.{put-length, put-nothing, put-one, put-values}
+use Rattle.octets.proofs.RunLaws.{put-length, put-one, put-values}
 use Rattle.positions.specs.Map.{bit, isSet, held, bitsFrom}
 use Rattle.positions.proofs.BitLaws.{bit-lt, bits-ext, bits-below, bit-from, set-low, set-high}
 use Rattle.positions.proofs.MapLaws.{held-in}
 use Rattle.reception.specs.Held.{heldOf}
 use Rattle.reception.proofs.JoinSteps.{bit-of}
 use Rattle.record.specs.Inner.{byteSaved}
+use Rattle.record.proofs.ReadSteps.{full-set}
 
 -- ---- written into a list
--- the values of no place
-pub put-none : (f : ℕ → ℕ) (out : List ℕ) (at from : ℕ) → out ≡ putIn out (at + from) (valuesFrom f from (from - from))
-put-none f out at from =
-    let e : 0 ≡ from - from = omega arith in
-    sym (put-nothing out (at + from)) ∙ ap (λ (n : ℕ). putIn out (at + from) (valuesFrom f from n)) e
+-- writing values leaves the list as long as it was
+pub same-long : (f : ℕ → ℕ) (out : List ℕ) (at i n : ℕ) (so-far : List ℕ) → at + n ≤ length out → so-far ≡ putIn out at (valuesFrom f i n)
+    → length so-far ≡ length out
+same-long f out at i n so-far h is = let a = values-long f i n in ap length is ∙ put-length out at (valuesFrom f i n) (omega (arith, a))
 
--- values behind values, as a loop meets them: position p stands at the place at + p, those from `from` on are written, and those below `end` are next
-module _ (f : ℕ → ℕ) (out : List ℕ) (at from p : ℕ) (so-far : List ℕ) (low : from ≤ p)
-    (is : so-far ≡ putIn out (at + from) (valuesFrom f from (p - from))) where
-  -- the values up to an end are next
-  pub put-run : (end : ℕ) (after : List ℕ) → p ≤ end → at + end ≤ length out → after ≡ putIn so-far (at + p) (valuesFrom f p (end - p))
-      → after ≡ putIn out (at + from) (valuesFrom f from (end - from))
-  put-run end after high h next =
-      let a : at + p ≡ at + from + (p - from) = omega arith in
-      let b : p ≡ from + (p - from) = omega arith in
-      let c : p - from + (end - p) ≡ end - from = omega arith in
-      next
-      ∙ ap (λ (l : List ℕ). putIn l (at + p) (valuesFrom f p (end - p))) is
-      ∙ ap₂ (λ (i j : ℕ). putIn (putIn out (at + from) (valuesFrom f from (p - from))) i (valuesFrom f j (end - p))) a b
-      ∙ put-values f out (at + from) from (p - from) (end - p) (omega arith)
-      ∙ ap (λ (n : ℕ). putIn out (at + from) (valuesFrom f from n)) c
+-- one value more behind the n that are written
+pub put-value : (f : ℕ → ℕ) (out : List ℕ) (at i n : ℕ) (so-far : List ℕ) → so-far ≡ putIn out at (valuesFrom f i n)
+    → (v : ℕ) → at + n < length out → v ≡ f (i + n) → set so-far (at + n) v ≡ putIn out at (valuesFrom f i (n + 1))
+put-value f out at i n so-far is v h e =
+    let a = same-long f out at i n so-far (omega arith) is in
+    put-one so-far (at + n) v (omega arith)
+    ∙ ap₂ (λ (l : List ℕ) (x : ℕ). putIn l (at + n) (x ∷ [])) is e
+    ∙ put-values f out at i n 1 (omega arith)
 
-  -- one byte is next
-  pub put-next : (v : ℕ) → at + p < length out → v ≡ f p → set so-far (at + p) v ≡ putIn out (at + from) (valuesFrom f from (p + 1 - from))
-  put-next v h e =
-      let a = values-long f from (p - from) in
-      let long : length so-far ≡ length out = ap length is ∙ put-length out (at + from) (valuesFrom f from (p - from)) (omega (arith, a)) in
-      let one : 1 ≡ p + 1 - p = omega arith in
-      put-run (p + 1) (set so-far (at + p) v) (omega arith) (omega arith)
-      (put-one so-far (at + p) v (omega arith)
-      ∙ ap (λ (x : ℕ). putIn so-far (at + p) (x ∷ [])) e
-      ∙ ap (λ (n : ℕ). putIn so-far (at + p) (valuesFrom f p n)) one)
-
--- .. from position 0 on
+-- the values of positions from 0 on, as a loop meets them: those below p are written
 module _ (f : ℕ → ℕ) (out : List ℕ) (at p : ℕ) (so-far : List ℕ) (is : so-far ≡ putIn out at (valuesFrom f 0 p)) where
-  same : (n : ℕ) → putIn out (at + 0) (valuesFrom f 0 (n - 0)) ≡ putIn out at (valuesFrom f 0 n)
-  same n = ap₂ (λ (i k : ℕ). putIn out i (valuesFrom f 0 k)) (add-zero at) (sub-zero n)
-
-  -- the values up to an end are next
+  -- those up to an end are next
   pub put-run-more : (end : ℕ) (after : List ℕ) → p ≤ end → at + end ≤ length out → after ≡ putIn so-far (at + p) (valuesFrom f p (end - p))
       → after ≡ putIn out at (valuesFrom f 0 end)
-  put-run-more end after high h next = put-run f out at 0 p so-far (omega arith) (is ∙ sym (same p)) end after high h next ∙ same end
+  put-run-more end after high h next =
+      let e : p + (end - p) ≡ end = omega arith in
+      next
+      ∙ ap₂ (λ (l : List ℕ) (i : ℕ). putIn l (at + p) (valuesFrom f i (end - p))) is (sym (zero-add p))
+      ∙ put-values f out at 0 p (end - p) (omega arith)
+      ∙ ap (λ (n : ℕ). putIn out at (valuesFrom f 0 n)) e
 
-  -- one byte is next
+  -- one is next
   pub put-one-more : (v : ℕ) → at + p < length out → v ≡ f p → set so-far (at + p) v ≡ putIn out at (valuesFrom f 0 (p + 1))
-  put-one-more v h e = put-next f out at 0 p so-far (omega arith) (is ∙ sym (same p)) v h e ∙ same (p + 1)
+  put-one-more v h e = put-value f out at 0 p so-far is v h (e ∙ ap f (sym (zero-add p)))
 
 -- ---- the bytes of a map without its spare bits
 bit-is : (b k : ℕ) (c : Bool) → isSet b k ≡ c → bit b k ≡ cond c 1 0
@@ -111,3 +93,7 @@ byte-of-held b d from p e = rw e
 
 pub byte-of-unheld : (b : ℕ) (d : List ℕ) (from p : ℕ) → isSet b (p - from) ≡ false → _≡_ {A = ℕ} 0 (byteSaved b d from p)
 byte-of-unheld b d from p e = rw e
+
+-- those of a full byte are the bytes as they are
+pub full-saved : (b : ℕ) (d : List ℕ) (from : ℕ) → b ≡ 255 → valuesFrom (byteAt d) from 8 ≡ valuesFrom (byteSaved b d from) from 8
+full-saved b d from e = values-alike (byteAt d) (byteSaved b d from) from 8 (λ p l h. byte-of-held b d from p (full-set b (p - from) e (omega arith)))

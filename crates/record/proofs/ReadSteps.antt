@@ -129,14 +129,16 @@ held-clear b d from p e = rw e
 pub byte-decides : (b : ℕ) (d : List ℕ) (from p : ℕ) → isSet b (p - from) ≡ false → eqb (byteAt d p) 0 ≡ clearAt b d from p
 byte-decides b d from p e = rw e
 
--- every position of a full byte is held
+-- every bit of a full byte is set, so every position is held
+pub full-set : (b k : ℕ) → b ≡ 255 → k < 8 → isSet b k ≡ true
+full-set b k e h =
+    let i : (0 * 8 + k) / 8 ≡ 0 = omega arith in
+    ap (λ (x : ℕ). isSet x k) e
+    ∙ sym (held-in (255 ∷ []) 0 k h)
+    ∙ full-byte (255 ∷ []) (0 * 8 + k) (ap (byteAt (255 ∷ [])) i)
+
 pub full-clear : (b : ℕ) (d : List ℕ) (from p : ℕ) → b ≡ 255 → p < from + 8 → clearAt b d from p ≡ true
-full-clear b d from p e h =
-    let k : (0 * 8 + (p - from)) / 8 ≡ 0 = omega arith in
-    held-clear b d from p
-    (ap (λ (x : ℕ). isSet x (p - from)) e
-    ∙ sym (held-in (255 ∷ []) 0 (p - from) (omega arith))
-    ∙ full-byte (255 ∷ []) (0 * 8 + (p - from)) (ap (byteAt (255 ∷ [])) k))
+full-clear b d from p e h = held-clear b d from p (full-set b (p - from) e (omega arith))
 
 -- a byte of a map, for the positions of it below an end
 module _ (m d : List ℕ) (from end : ℕ) (a : from % 8 ≡ 0) (low : from ≤ end) (high : end ≤ from + 8) where

@@ -10,7 +10,7 @@ ghost use mathlib.Core.Bool.{false};
 ghost use mathlib.Core.List.{_∷_, _++_};
 ghost use Prim.Native.Nat.{_+_, _-_, _*_, _/_, _%_, _≤_, _<_, _^_};
 ghost use lib.ListN.{length};
-ghost use Rattle.octets.specs.Numbers.{bytesOf};
+ghost use Rattle.octets.specs.Numbers.{byteAt, bytesOf};
 ghost use Rattle.octets.specs.Values.{valuesFrom};
 ghost use Rattle.octets.specs.Runs.{putIn};
 ghost use Rattle.positions.specs.Map.{mapSize};
@@ -88,16 +88,50 @@ fn saved_at(b: u8, buffer: &[u8], from: usize, p: usize) -> u8
     if (b >> (p - from)) & 1 == 1 { byte } else { 0 }
 }
 
-// Writes the bytes of the positions from `from` on and below `end`, by their bits in a byte, into the target:
-// position p at the place `at` + p.
+// Copies the bytes of the eight positions from `from` on into the target: position p at the place `at` + p.
+// Eight turns, whatever is copied, are unrolled by the compiler.
+fn copy_eight(buffer: &[u8], from: usize, target: &mut [u8], at: usize)
+    requires { ⌜ (from + 8 ≤ length (now buffer)) × (at + from + 8 ≤ length (now target)) ⌝ }
+    ensures { λ _. ⌜ now (target .exit) ≡ putIn (now (target .entry)) (at + from) (valuesFrom (byteAt (now (buffer .entry))) from 8) ⌝ }
+{
+    let mut k = 0;
+    while k < 8 {
+        target[at + from + k] = buffer[from + k];
+        k += 1;
+    }
+}
+
+// Writes the bytes of the eight positions from `from` on, by their bits in a byte, likewise. Those of a full
+// byte are copied.
+fn put_eight(b: u8, buffer: &[u8], from: usize, target: &mut [u8], at: usize)
+    requires { ⌜ (from + 8 ≤ length (now buffer)) × (at + from + 8 ≤ length (now target)) ⌝ }
+    ensures { λ _. ⌜ now (target .exit) ≡ putIn (now (target .entry)) (at + from) (valuesFrom (byteSaved b (now (buffer .entry)) from) from 8) ⌝ }
+{
+    if b == 255 {
+        copy_eight(buffer, from, target, at);
+        return;
+    }
+    let mut k = 0;
+    while k < 8 {
+        target[at + from + k] = saved_at(b, buffer, from, from + k);
+        k += 1;
+    }
+}
+
+// Writes the bytes of the positions from `from` on and below `end`, by their bits in a byte, likewise.
 fn put_byte(b: u8, buffer: &[u8], from: usize, end: usize, target: &mut [u8], at: usize)
     requires { ⌜ (from ≤ end) × (end ≤ from + 8) × (end ≤ length (now buffer)) × (at + end ≤ length (now target)) ⌝ }
     ensures { λ _. ⌜ now (target .exit) ≡ putIn (now (target .entry)) (at + from) (valuesFrom (byteSaved b (now (buffer .entry)) from) from (end - from)) ⌝ }
 {
-    let mut p = from;
-    while p < end {
-        target[at + p] = saved_at(b, buffer, from, p);
-        p += 1;
+    let n = end - from;
+    if n == 8 {
+        put_eight(b, buffer, from, target, at);
+        return;
+    }
+    let mut k = 0;
+    while k < n {
+        target[at + from + k] = saved_at(b, buffer, from, from + k);
+        k += 1;
     }
 }
 

@@ -1,32 +1,55 @@
--- `record::writing::put_byte` meets its contract: the bytes of the positions so far are written.
+-- `record::writing::put_byte` meets its contract: all eight bytes are written at once; of fewer the first k.
 -- Assumes nothing.
-use mathlib.Core.Path.{_≡_, refl, ap, _∙_}
+use mathlib.Core.Path.{_≡_, refl, sym, ap, _∙_}
+use mathlib.Core.List.{List}
 use Prim.Native.Nat.{ℕ, _+_, _-_, _≤_}
 use native.Mathlib.Omega.{arith}
 use lib.ListN.{length, length-set}
 use Rattle.octets.specs.Values.{valuesFrom}
 use Rattle.octets.specs.Runs.{putIn}
+use Rattle.octets.proofs.RunLaws.{put-nothing}
 use Rattle.record.specs.Inner.{byteSaved}
-use Rattle.record.proofs.PutLaws.{put-none, put-next}
+use Rattle.record.proofs.PutLaws.{same-long, put-value}
 use Rattle.record.proofs.writing.put_byte.Statement.{statement}
 use Rattle.record.proofs.writing.put_byte.Tie as tie
 
 abbrev Inv-loop : tie.InvT-loop
-Inv-loop b buffer from end target₀ at p₀ target p =
-    (from ≤ p) × (p ≤ end)
-    × (target ≡ putIn target₀ (at + from) (valuesFrom (byteSaved b buffer from) from (p - from)))
-    × (length target ≡ length target₀)
+Inv-loop b buffer from end target₀ at n k₀ target k =
+    (k ≤ n) × (target ≡ putIn target₀ (at + from) (valuesFrom (byteSaved b buffer from) from k)) × (length target ≡ length target₀)
 
 abbrev μ-loop : tie.MeasureT-loop
-μ-loop b buffer from end target₀ at p₀ target p = end - p
+μ-loop b buffer from end target₀ at n k₀ target k = n - k
 
 abbrev F : tie.Start Inv-loop μ-loop → ℕ → ℕ
 F s = byteSaved (s .args .b) (s .args .buffer .now) (s .args .from)
 
+abbrev Left : tie.Start Inv-loop μ-loop → ℕ → List ℕ
+Left s k = putIn (s .args .target .now) (s .args .at + s .args .from) (valuesFrom (F s) (s .args .from) k)
+
+sub-n : tie.Need-sub-n Inv-loop μ-loop
+sub-n c = omega arith
+
+put-eight-requires : tie.Need-put-eight-requires Inv-loop μ-loop
+put-eight-requires c κs = (omega arith, omega arith)
+
+abbrev S : tie.After-slice-known2 Inv-loop μ-loop → tie.Start Inv-loop μ-loop
+S c = c .before .before .before .before .before .before .before
+
+same-length : tie.Need-same-length Inv-loop μ-loop
+same-length c =
+    let s = S c in
+    same-long (F s) (s .args .target .now) (s .args .at + s .args .from) (s .args .from) 8 _ (omega arith) (c .before .before .put-eight .ensures)
+
+returns : tie.Need-returns Inv-loop μ-loop
+returns c = c .before .before .put-eight .ensures ∙ ap (Left (S c)) (sym (c .before .before .before .before .if1 .taken))
+
 loop-holds : tie.Need-loop-holds Inv-loop μ-loop
 loop-holds c =
-    let s = c .before .before in
-    (omega arith, omega arith, put-none (F s) (s .args .target .now) (s .args .at) (s .args .from), refl)
+    let s = c .before .before .before in
+    (omega arith, sym (put-nothing (s .args .target .now) (s .args .at + s .args .from)), refl)
+
+add-saved-at : tie.Need-add-saved-at Inv-loop μ-loop
+add-saved-at c = omega arith
 
 saved-at-requires : tie.Need-saved-at-requires Inv-loop μ-loop
 saved-at-requires c κs = (omega arith, omega arith, omega arith)
@@ -34,11 +57,14 @@ saved-at-requires c κs = (omega arith, omega arith, omega arith)
 add-target : tie.Need-add-target Inv-loop μ-loop
 add-target c = omega arith
 
+add-target-2 : tie.Need-add-target-2 Inv-loop μ-loop
+add-target-2 c = omega arith
+
 slice-write-target : tie.Need-slice-write-target Inv-loop μ-loop
 slice-write-target c = omega arith
 
-add-p : tie.Need-add-p Inv-loop μ-loop
-add-p c = omega arith
+add-k : tie.Need-add-k Inv-loop μ-loop
+add-k c = omega arith
 
 loop-less : tie.Need-loop-less Inv-loop μ-loop
 loop-less c = omega arith
@@ -46,23 +72,21 @@ loop-less c = omega arith
 loop-again : tie.Need-loop-again Inv-loop μ-loop
 loop-again c =
     let b = c .before .before in
-    let s = b .before .before .before in (
+    let s = b .before .before .before .before in (
       omega arith,
-      omega arith,
-      put-next (F s) (s .args .target .now) (s .args .at) (s .args .from) (b .loop .p) (b .loop .target) (b .loop .inv .0) (b .loop .inv .2)
+      put-value (F s) (s .args .target .now) (s .args .at + s .args .from) (s .args .from) (b .loop .k) (b .loop .target) (b .loop .inv .1)
           (c .saved-at .result) (omega arith) (c .saved-at .ensures),
-      simp length-set (b .loop .inv .3),
+      simp length-set (b .loop .inv .2),
     )
 
-same-length : tie.Need-same-length Inv-loop μ-loop
-same-length c = omega arith
+same-length-2 : tie.Need-same-length-2 Inv-loop μ-loop
+same-length-2 c = omega arith
 
-returns : tie.Need-returns Inv-loop μ-loop
-returns c =
-    let s = c .before .before .before .before in
-    let e : c .before .loop .p ≡ s .args .end = omega arith in
-    c .before .loop .inv .2
-    ∙ ap (λ (p : ℕ). putIn (s .args .target .now) (s .args .at + s .args .from) (valuesFrom (F s) (s .args .from) (p - s .args .from))) e
+returns-2 : tie.Need-returns-2 Inv-loop μ-loop
+returns-2 c =
+    let s = c .before .before .before .before .before in
+    let e : c .before .loop .k ≡ s .args .end - s .args .from = omega arith in
+    c .before .loop .inv .1 ∙ ap (Left s) e
 
 pub put-byte-spec : {M : Type 1} → statement M
 put-byte-spec =
@@ -70,12 +94,18 @@ put-byte-spec =
     (tie.spec
     Inv-loop
     μ-loop
+    sub-n
+    put-eight-requires
+    same-length
+    returns
     loop-holds
+    add-saved-at
     saved-at-requires
     add-target
+    add-target-2
     slice-write-target
-    add-p
+    add-k
     loop-less
     loop-again
-    same-length
-    returns)
+    same-length-2
+    returns-2)

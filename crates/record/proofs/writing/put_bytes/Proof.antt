@@ -2,18 +2,15 @@
 -- Assumes nothing.
 use mathlib.Core.Path.{_≡_, refl, sym, ap, _∙_}
 use mathlib.Core.Bool.{cond}
-use mathlib.Core.List.{List}
 use Prim.Native.Nat.{ℕ, _+_, _-_, _%_, _≤_, _<_}
 use native.Mathlib.Omega.{arith}
-use lib.ListN.{length}
 use Rattle.octets.specs.Numbers.{byteAt}
 use Rattle.octets.specs.Values.{valuesFrom}
 use Rattle.octets.specs.Runs.{putIn}
-use Rattle.octets.proofs.ValueLaws.{values-long}
-use Rattle.octets.proofs.RunLaws.{put-length, put-nothing}
+use Rattle.octets.proofs.RunLaws.{put-nothing}
 use Rattle.positions.specs.Map.{held}
 use Rattle.reception.proofs.Steps.{end-within, end-aligned}
-use Rattle.record.proofs.PutLaws.{put-run-more, saved-byte}
+use Rattle.record.proofs.PutLaws.{same-long, put-run-more, saved-byte}
 use Rattle.record.proofs.writing.put_bytes.Statement.{statement}
 use Rattle.record.proofs.writing.put_bytes.Tie as tie
 
@@ -27,9 +24,6 @@ abbrev μ-loop : tie.MeasureT-loop
 
 abbrev F : tie.Start Inv-loop μ-loop → ℕ → ℕ
 F s = λ q. cond (held (s .args .map .now) q) (byteAt (s .args .buffer .now) q) 0
-
-long : (f : ℕ → ℕ) (out target : List ℕ) (at p : ℕ) → at + p ≤ length out → target ≡ putIn out at (valuesFrom f 0 p) → length target ≡ length out
-long f out target at p h e = let n = values-long f 0 p in ap length e ∙ put-length out at (valuesFrom f 0 p) (omega (arith, n))
 
 loop-holds : tie.Need-loop-holds Inv-loop μ-loop
 loop-holds c = (omega arith, (λ _. refl), sym (put-nothing (c .before .before .before .args .target .now) (c .before .before .before .args .at)))
@@ -57,7 +51,7 @@ put-byte-requires : tie.Need-put-byte-requires Inv-loop μ-loop
 put-byte-requires c κs =
     let d = c .before .before in
     let w = inside d in
-    let e = long (F (S d)) (S d .args .target .now) (L d .loop .target) (S d .args .at) (L d .loop .p) (omega arith) (L d .loop .inv .2) in
+    let e = same-long (F (S d)) (S d .args .target .now) (S d .args .at) 0 (L d .loop .p) (L d .loop .target) (omega arith) (L d .loop .inv .2) in
     (omega (arith, w), omega (arith, w), omega (arith, w), omega (arith, w, e))
 
 loop-less : tie.Need-loop-less Inv-loop μ-loop
@@ -80,7 +74,7 @@ loop-again c =
 same-length : tie.Need-same-length Inv-loop μ-loop
 same-length c =
     let s = c .before .before .before .before .before in
-    long (F s) (s .args .target .now) (c .before .loop .target) (s .args .at) (c .before .loop .p) (omega arith) (c .before .loop .inv .2)
+    same-long (F s) (s .args .target .now) (s .args .at) 0 (c .before .loop .p) (c .before .loop .target) (omega arith) (c .before .loop .inv .2)
 
 returns : tie.Need-returns Inv-loop μ-loop
 returns c =
