@@ -1,10 +1,11 @@
 -- Steps of reading a record: its parts, its spare bits, and its unheld bytes, a map byte at a time.
 -- Assumes nothing.
 use mathlib.Core.Path.{_≡_, refl, sym, ap, _∙_}
-use mathlib.Core.Bool.{Bool, true, false, cond, not, _&&_, _||_, true≢false}
+use mathlib.Core.Bool.{Bool, true, false, cond, not, _&&_, _||_, true≢false, and-assoc, and-true}
 use mathlib.Core.Logic.{⊎-elim}
 use mathlib.Core.List.{List, [], _∷_}
-use Prim.Native.Nat.{ℕ, _+_, _-_, _*_, _/_, _%_, _^_, _≤_, _<_}
+use Prim.Native.Nat.{ℕ, zero, suc, _+_, _-_, _*_, _/_, _%_, _^_, _≤_, _<_}
+use native.Mathlib.Nat.{suc-add, add-suc, add-zero}
 use native.Mathlib.Omega.{arith}
 use lib.Bits.{bitAnd}
 use lib.Dec.{eqb, leb}
@@ -114,20 +115,32 @@ module _ (l : ℕ) (m : List ℕ) (some : l % 8 ≡ 0 → ⊥) where
 
 -- ---- the unheld bytes
 -- one bit, shifted down and masked
-pub bit-told : (b k : ℕ) → bitAnd (b / 2 ^ k) 1 ≡ 1 → isSet b k ≡ true
+pub bit-test : (b k : ℕ) → eqb (bitAnd (b / 2 ^ k) 1) 1 ≡ isSet b k
 unfolding bit
-bit-told b k e = eq-eqb (b / 2 ^ k % 2) 1 (sym (and-one (b / 2 ^ k)) ∙ e)
+bit-test b k = ap (λ (x : ℕ). eqb x 1) (and-one (b / 2 ^ k))
+
+pub bit-told : (b k : ℕ) → bitAnd (b / 2 ^ k) 1 ≡ 1 → isSet b k ≡ true
+bit-told b k e = sym (bit-test b k) ∙ eq-eqb (bitAnd (b / 2 ^ k) 1) 1 e
 
 pub bit-not-told : (b k : ℕ) → (bitAnd (b / 2 ^ k) 1 ≡ 1 → ⊥) → isSet b k ≡ false
-unfolding bit
-bit-not-told b k d = ne-eqb (b / 2 ^ k % 2) 1 (λ e. d (and-one (b / 2 ^ k) ∙ e))
+bit-not-told b k d = sym (bit-test b k) ∙ ne-eqb (bitAnd (b / 2 ^ k) 1) 1 d
 
--- a held position is clear; of another the byte decides
-pub held-clear : (b : ℕ) (d : List ℕ) (from p : ℕ) → isSet b (p - from) ≡ true → clearAt b d from p ≡ true
-held-clear b d from p e = rw e
+-- no position, and one more behind the others
+pub every-none : (test : ℕ → Bool) (p : ℕ) → every test p 0 ≡ true
+unfolding every
+every-none test p = refl
 
-pub byte-decides : (b : ℕ) (d : List ℕ) (from p : ℕ) → isSet b (p - from) ≡ false → eqb (byteAt d p) 0 ≡ clearAt b d from p
-byte-decides b d from p e = rw e
+pub every-more : (test : ℕ → Bool) (p n : ℕ) → (every test p n && test (p + n)) ≡ every test p (n + 1)
+unfolding every
+every-more test p zero = rw (add-zero p) (sym (and-true (test p)))
+every-more test p (suc n) =
+    rw (suc-add n 1, add-suc p n)
+    (and-assoc (test p) (every test (suc p) n) (test (suc (p + n)))
+    ∙ ap (λ (b : Bool). test p && b) (ap (λ (q : ℕ). every test (suc p) n && test q) (sym (suc-add p n)) ∙ every-more test (suc p) n))
+
+-- a position by its bit and its byte
+pub clear-by : (b : ℕ) (d : List ℕ) (from p : ℕ) → (eqb (bitAnd (b / 2 ^ (p - from)) 1) 1 || eqb (byteAt d p) 0) ≡ clearAt b d from p
+clear-by b d from p = ap (λ (w : Bool). w || eqb (byteAt d p) 0) (bit-test b (p - from))
 
 -- every bit of a full byte is set, so every position is held
 pub full-set : (b k : ℕ) → b ≡ 255 → k < 8 → isSet b k ≡ true
@@ -138,7 +151,7 @@ full-set b k e h =
     ∙ full-byte (255 ∷ []) (0 * 8 + k) (ap (byteAt (255 ∷ [])) i)
 
 pub full-clear : (b : ℕ) (d : List ℕ) (from p : ℕ) → b ≡ 255 → p < from + 8 → clearAt b d from p ≡ true
-full-clear b d from p e h = held-clear b d from p (full-set b (p - from) e (omega arith))
+full-clear b d from p e h = ap (λ (w : Bool). w || eqb (byteAt d p) 0) (full-set b (p - from) e (omega arith))
 
 -- a byte of a map, for the positions of it below an end
 module _ (m d : List ℕ) (from end : ℕ) (a : from % 8 ≡ 0) (low : from ≤ end) (high : end ≤ from + 8) where

@@ -129,15 +129,28 @@ fn spare_clear(map: &[u8], l: usize) -> bool
 }
 
 // Whether position p is held, by its bit in the byte of the eight positions from `from` on, or its byte is
-// zero.
+// zero. The byte is read in any case, so that no branch is needed.
 fn clear_at(b: u8, bytes: &[u8], from: usize, p: usize) -> bool
     requires { ⌜ (from ≤ p) × (p < from + 8) × (p < length (now bytes)) ⌝ }
     ensures { λ r. ⌜ r ≡ clearAt b (now (bytes .entry)) from p ⌝ }
 {
-    if (b >> (p - from)) & 1 == 1 {
-        return true;
+    let byte = bytes[p];
+    ((b >> (p - from)) & 1 == 1) | (byte == 0)
+}
+
+// The same of the eight positions from `from` on. Eight turns, whatever is found, are unrolled by the
+// compiler.
+fn clear_eight(b: u8, bytes: &[u8], from: usize) -> bool
+    requires { ⌜ from + 8 ≤ length (now bytes) ⌝ }
+    ensures { λ r. ⌜ r ≡ every (clearAt b (now (bytes .entry)) from) from 8 ⌝ }
+{
+    let mut clear = true;
+    let mut k = 0;
+    while k < 8 {
+        clear = clear & clear_at(b, bytes, from, from + k);
+        k += 1;
     }
-    bytes[p] == 0
+    clear
 }
 
 // Whether those positions from `from` on and below `end` that are not held, by their bits in a byte, have
@@ -149,14 +162,17 @@ fn clear_byte(b: u8, bytes: &[u8], from: usize, end: usize) -> bool
     if b == 255 {
         return true;
     }
-    let mut p = from;
-    while p < end {
-        if !clear_at(b, bytes, from, p) {
-            return false;
-        }
-        p += 1;
+    let n = end - from;
+    if n == 8 {
+        return clear_eight(b, bytes, from);
     }
-    true
+    let mut clear = true;
+    let mut k = 0;
+    while k < n {
+        clear = clear & clear_at(b, bytes, from, from + k);
+        k += 1;
+    }
+    clear
 }
 
 // Where the eight positions from `from` on that are below n end.
