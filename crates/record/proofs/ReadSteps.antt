@@ -153,23 +153,29 @@ full-set b k e h =
 pub full-clear : (b : ℕ) (d : List ℕ) (from p : ℕ) → b ≡ 255 → p < from + 8 → clearAt b d from p ≡ true
 full-clear b d from p e h = ap (λ (w : Bool). w || eqb (byteAt d p) 0) (full-set b (p - from) e (omega arith))
 
--- a byte of a map, for the positions of it below an end
-module _ (m d : List ℕ) (from end : ℕ) (a : from % 8 ≡ 0) (low : from ≤ end) (high : end ≤ from + 8) where
-  clear-byte-is : every (clearAt (byteAt m (from / 8)) d from) from (end - from) ≡ every (λ p. held m p || eqb (byteAt d p) 0) from (end - from)
+-- a byte of a map, for the first n of its positions
+module _ (m d : List ℕ) (from n : ℕ) (a : from % 8 ≡ 0) (few : n ≤ 8) where
+  clear-byte-is : every (clearAt (byteAt m (from / 8)) d from) from n ≡ every (λ p. held m p || eqb (byteAt d p) 0) from n
   clear-byte-is =
-      every-same (clearAt (byteAt m (from / 8)) d from) (λ p. held m p || eqb (byteAt d p) 0) from (end - from)
+      every-same (clearAt (byteAt m (from / 8)) d from) (λ p. held m p || eqb (byteAt d p) 0) from n
       (λ q l g. ap (λ (w : Bool). w || eqb (byteAt d q) 0) (bit-of m from q a l (omega arith)))
 
   -- where it fails, all fail
-  pub clear-fails : (n : ℕ) → end ≤ n → every (clearAt (byteAt m (from / 8)) d from) from (end - from) ≡ false → unheldClear n m d ≡ false
-  clear-fails n h e =
-      part-fails (λ p. held m p || eqb (byteAt d p) 0) 0 n from (end - from) (omega arith) (omega arith) (sym clear-byte-is ∙ e)
+  pub clear-fails : (l : ℕ) → from + n ≤ l → every (clearAt (byteAt m (from / 8)) d from) from n ≡ false → unheldClear l m d ≡ false
+  clear-fails l h e =
+      part-fails (λ p. held m p || eqb (byteAt d p) 0) 0 l from n (omega arith) (omega arith) (sym clear-byte-is ∙ e)
 
-  -- where it passes, the positions so far pass
-  pub clear-passes : every (clearAt (byteAt m (from / 8)) d from) from (end - from) ≡ true
-      → ((q : ℕ) → 0 ≤ q → q < from → (held m q || eqb (byteAt d q) 0) ≡ true) → (q : ℕ) → 0 ≤ q → q < end → (held m q || eqb (byteAt d q) 0) ≡ true
-  clear-passes e before q l g =
-      ⊎-elim
-      (λ h. all-at (λ p. held m p || eqb (byteAt d p) 0) from (end - from) (sym clear-byte-is ∙ e) q h (omega arith))
-      (λ h. before q l h)
-      (le-or-lt from q)
+  module _ (before : (q : ℕ) → 0 ≤ q → q < from → (held m q || eqb (byteAt d q) 0) ≡ true) where
+    -- where it passes, the positions so far pass
+    pub clear-passes : every (clearAt (byteAt m (from / 8)) d from) from n ≡ true
+        → (q : ℕ) → 0 ≤ q → q < from + n → (held m q || eqb (byteAt d q) 0) ≡ true
+    clear-passes e q l g =
+        ⊎-elim
+        (λ h. all-at (λ p. held m p || eqb (byteAt d p) 0) from n (sym clear-byte-is ∙ e) q h g)
+        (λ h. before q l h)
+        (le-or-lt from q)
+
+    -- where it is the last, it decides
+    pub clear-last : (l : ℕ) → l ≡ from + n → (r : Bool) → r ≡ every (clearAt (byteAt m (from / 8)) d from) from n → r ≡ unheldClear l m d
+    clear-last l is true e = sym (all-if (λ p. held m p || eqb (byteAt d p) 0) 0 l (λ q h g. clear-passes (sym e) q h (omega arith)))
+    clear-last l is false e = sym (clear-fails l (omega arith) (sym e))

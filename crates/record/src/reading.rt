@@ -11,7 +11,7 @@ ghost use mathlib.Core.List.{[]};
 ghost use Prim.Native.Nat.{_+_, _-_, _*_, _/_, _≤_, _<_};
 ghost use lib.Dec.{leb};
 ghost use lib.ListN.{length};
-ghost use Rattle.positions.specs.Spans.{every, upTo};
+ghost use Rattle.positions.specs.Spans.{every};
 ghost use Rattle.positions.specs.Map.{mapSize};
 ghost use Rattle.reception.specs.Reception.{longest};
 ghost use Rattle.record.specs.Record.{mapAt, bytesAt, recordLength};
@@ -138,12 +138,15 @@ fn clear_at(b: u8, bytes: &[u8], from: usize, p: usize) -> bool
     ((b >> (p - from)) & 1 == 1) | (byte == 0)
 }
 
-// The same of the eight positions from `from` on. Eight turns, whatever is found, are unrolled by the
-// compiler.
+// The same of the eight positions from `from` on. A full byte is passed over; of another, eight turns,
+// whatever is found, are unrolled by the compiler.
 fn clear_eight(b: u8, bytes: &[u8], from: usize) -> bool
     requires { ⌜ from + 8 ≤ length (now bytes) ⌝ }
     ensures { λ r. ⌜ r ≡ every (clearAt b (now (bytes .entry)) from) from 8 ⌝ }
 {
+    if b == 255 {
+        return true;
+    }
     let mut clear = true;
     let mut k = 0;
     while k < 8 {
@@ -153,19 +156,11 @@ fn clear_eight(b: u8, bytes: &[u8], from: usize) -> bool
     clear
 }
 
-// Whether those positions from `from` on and below `end` that are not held, by their bits in a byte, have
-// zero bytes. A full byte is passed over.
-fn clear_byte(b: u8, bytes: &[u8], from: usize, end: usize) -> bool
-    requires { ⌜ (from ≤ end) × (end ≤ from + 8) × (end ≤ length (now bytes)) ⌝ }
-    ensures { λ r. ⌜ r ≡ every (clearAt b (now (bytes .entry)) from) from (end - from) ⌝ }
+// The same of the n positions from `from` on.
+fn clear_few(b: u8, bytes: &[u8], from: usize, n: usize) -> bool
+    requires { ⌜ (n ≤ 8) × (from + n ≤ length (now bytes)) ⌝ }
+    ensures { λ r. ⌜ r ≡ every (clearAt b (now (bytes .entry)) from) from n ⌝ }
 {
-    if b == 255 {
-        return true;
-    }
-    let n = end - from;
-    if n == 8 {
-        return clear_eight(b, bytes, from);
-    }
     let mut clear = true;
     let mut k = 0;
     while k < n {
@@ -175,26 +170,21 @@ fn clear_byte(b: u8, bytes: &[u8], from: usize, end: usize) -> bool
     clear
 }
 
-// Where the eight positions from `from` on that are below n end.
-pub(crate) fn byte_end(from: usize, n: usize) -> usize
-    requires { ⌜ from < longest ⌝ }
-    ensures { λ r. ⌜ r ≡ upTo from n ⌝ }
-{
-    if from + 8 <= n { from + 8 } else { n }
-}
-
-// Whether the bytes of the positions below l that are not held are zero. A map byte is looked at once.
+// Whether the bytes of the positions below l that are not held are zero. A map byte is looked at once, the
+// last one for itself where it has fewer than eight positions.
 fn unheld_clear(map: &[u8], bytes: &[u8], l: usize) -> bool
     requires { ⌜ (l ≤ longest) × (l ≤ length (now map) * 8) × (l ≤ length (now bytes)) ⌝ }
     ensures { λ r. ⌜ r ≡ unheldClear l (now (map .entry)) (now (bytes .entry)) ⌝ }
 {
     let mut p = 0;
-    while p < l {
-        let end = byte_end(p, l);
-        if !clear_byte(map[p / 8], bytes, p, end) {
+    while p + 8 <= l {
+        if !clear_eight(map[p / 8], bytes, p) {
             return false;
         }
-        p = end;
+        p += 8;
     }
-    true
+    if p == l {
+        return true;
+    }
+    clear_few(map[p / 8], bytes, p, l - p)
 }

@@ -4,7 +4,6 @@ use super::LENGTH_TAG;
 use super::MAP_AT;
 use super::MAP_TAG;
 use super::NUMBER_TAG;
-use crate::reading;
 ghost use mathlib.Core.Path.{_≡_};
 ghost use mathlib.Core.Bool.{false};
 ghost use mathlib.Core.List.{_∷_, _++_};
@@ -13,6 +12,7 @@ ghost use lib.ListN.{length};
 ghost use Rattle.octets.specs.Numbers.{byteAt, bytesOf};
 ghost use Rattle.octets.specs.Values.{valuesFrom};
 ghost use Rattle.octets.specs.Runs.{putIn};
+ghost use Rattle.positions.specs.Spans.{upTo};
 ghost use Rattle.positions.specs.Map.{mapSize};
 ghost use Rattle.reception.specs.Reception.{longest, wrongLength};
 ghost use Rattle.record.specs.Record.{field, savedMap, savedBytes, recordOf, recordLength};
@@ -135,6 +135,14 @@ fn put_byte(b: u8, buffer: &[u8], from: usize, end: usize, target: &mut [u8], at
     }
 }
 
+// Where the eight positions from `from` on that are below n end.
+fn byte_end(from: usize, n: usize) -> usize
+    requires { ⌜ from < longest ⌝ }
+    ensures { λ r. ⌜ r ≡ upTo from n ⌝ }
+{
+    if from + 8 <= n { from + 8 } else { n }
+}
+
 // Writes the bytes of a file of l bytes into the target from a place on, unheld ones as zero. A map byte is
 // looked at once.
 fn put_bytes(map: &[u8], buffer: &[u8], l: usize, target: &mut [u8], at: usize)
@@ -143,7 +151,7 @@ fn put_bytes(map: &[u8], buffer: &[u8], l: usize, target: &mut [u8], at: usize)
 {
     let mut p = 0;
     while p < l {
-        let end = reading::byte_end(p, l);
+        let end = byte_end(p, l);
         put_byte(map[p / 8], buffer, p, end, target, at);
         p = end;
     }

@@ -1,12 +1,13 @@
--- `record::reading::clear_eight` meets its contract: whether the first k positions are clear.
+-- `record::reading::clear_eight` meets its contract: a full byte is clear; of another, whether the first k positions are.
 -- Assumes nothing.
 use mathlib.Core.Path.{_≡_, sym, ap, ap₂, _∙_}
 use mathlib.Core.Bool.{Bool, _&&_}
 use Prim.Native.Nat.{ℕ, _-_, _≤_}
 use native.Mathlib.Omega.{arith}
 use Rattle.positions.specs.Spans.{every}
+use Rattle.positions.proofs.SpanLaws.{all-if}
 use Rattle.record.specs.Inner.{clearAt}
-use Rattle.record.proofs.ReadSteps.{every-none, every-more}
+use Rattle.record.proofs.ReadSteps.{every-none, every-more, full-clear}
 use Rattle.record.proofs.reading.clear_eight.Statement.{statement}
 use Rattle.record.proofs.reading.clear_eight.Tie as tie
 
@@ -19,8 +20,14 @@ abbrev μ-loop : tie.MeasureT-loop
 abbrev T : tie.Start Inv-loop μ-loop → ℕ → Bool
 T s = clearAt (s .args .b) (s .args .bytes .now) (s .args .from)
 
+returns : tie.Need-returns Inv-loop μ-loop
+returns c =
+    let s = c .before .before in
+    sym
+    (all-if (T s) (s .args .from) 8 (λ q l g. full-clear (s .args .b) (s .args .bytes .now) (s .args .from) q (c .if1 .taken) (omega arith)))
+
 loop-holds : tie.Need-loop-holds Inv-loop μ-loop
-loop-holds c = (omega arith, sym (every-none (T (c .before)) (c .before .args .from)))
+loop-holds c = let s = c .before .before in (omega arith, sym (every-none (T s) (s .args .from)))
 
 add-clear-at : tie.Need-add-clear-at Inv-loop μ-loop
 add-clear-at c = omega arith
@@ -37,12 +44,12 @@ loop-less c = omega arith
 loop-again : tie.Need-loop-again Inv-loop μ-loop
 loop-again c =
     let b = c .before .before in
-    let s = b .before .before in
+    let s = b .before .before .before in
     (omega arith, ap₂ _&&_ (b .loop .inv .1) (c .clear-at .ensures) ∙ every-more (T s) (s .args .from) (b .loop .k))
 
-returns : tie.Need-returns Inv-loop μ-loop
-returns c =
-    let s = c .before .before .before in
+returns-2 : tie.Need-returns-2 Inv-loop μ-loop
+returns-2 c =
+    let s = c .before .before .before .before in
     let e : c .before .loop .k ≡ 8 = omega arith in
     c .before .loop .inv .1 ∙ ap (every (T s) (s .args .from)) e
 
@@ -52,10 +59,11 @@ clear-eight-spec =
     (tie.spec
     Inv-loop
     μ-loop
+    returns
     loop-holds
     add-clear-at
     clear-at-requires
     add-k
     loop-less
     loop-again
-    returns)
+    returns-2)

@@ -1,76 +1,88 @@
--- `record::reading::unheld_clear` meets its contract: the bytes so far are clear.
+-- `record::reading::unheld_clear` meets its contract: the bytes so far are clear, and the last ones decide.
 -- Assumes nothing.
 use mathlib.Core.Path.{_≡_, sym, _∙_}
-use mathlib.Core.Bool.{true, _||_}
-use Prim.Native.Nat.{ℕ, _+_, _-_, _%_, _≤_, _<_}
+use mathlib.Core.Bool.{Bool, true, _||_}
+use Prim.Native.Nat.{ℕ, _-_, _%_, _≤_, _<_}
 use native.Mathlib.Omega.{arith}
 use lib.Dec.{eqb}
 use borrow.Author.Tests.{not-true, not-false}
 use Rattle.octets.specs.Numbers.{byteAt}
 use Rattle.positions.specs.Map.{held}
 use Rattle.positions.proofs.SpanLaws.{all-if, no-between}
-use Rattle.reception.proofs.Steps.{end-within, end-aligned}
-use Rattle.record.proofs.ReadSteps.{clear-fails, clear-passes}
+use Rattle.record.proofs.ReadSteps.{clear-fails, clear-passes, clear-last}
 use Rattle.record.proofs.reading.unheld_clear.Statement.{statement}
 use Rattle.record.proofs.reading.unheld_clear.Tie as tie
 
 abbrev Inv-loop : tie.InvT-loop
-Inv-loop map bytes l p₀ p = (p ≤ l) × (p < l → p % 8 ≡ 0) × ((q : ℕ) → 0 ≤ q → q < p → (held map q || eqb (byteAt bytes q) 0) ≡ true)
+Inv-loop map bytes l p₀ p = (p ≤ l) × (p % 8 ≡ 0) × ((q : ℕ) → 0 ≤ q → q < p → (held map q || eqb (byteAt bytes q) 0) ≡ true)
 
 abbrev μ-loop : tie.MeasureT-loop
 μ-loop map bytes l p₀ p = l - p
 
 loop-holds : tie.Need-loop-holds Inv-loop μ-loop
-loop-holds c = (omega arith, (λ _. omega arith), λ q l g. absurd (no-between 0 q l g))
+loop-holds c = (omega arith, omega arith, λ q l g. absurd (no-between 0 q l g))
 
-byte-end-requires : tie.Need-byte-end-requires Inv-loop μ-loop
-byte-end-requires c κs = omega arith
+add-loop : tie.Need-add-loop Inv-loop μ-loop
+add-loop c = omega arith
 
-abbrev L : tie.After-byte-end Inv-loop μ-loop → tie.At-loop Inv-loop μ-loop
-L c = c .before .before
+shared-slice-read-clear-eight : tie.Need-shared-slice-read-clear-eight Inv-loop μ-loop
+shared-slice-read-clear-eight c = omega arith
 
-abbrev S : tie.After-byte-end Inv-loop μ-loop → tie.Start Inv-loop μ-loop
-S c = c .before .before .before .before .before
+clear-eight-requires : tie.Need-clear-eight-requires Inv-loop μ-loop
+clear-eight-requires c κs = omega arith
 
-inside : (c : tie.After-byte-end Inv-loop μ-loop)
-    → (L c .loop .p < c .byte-end .result) × (c .byte-end .result ≤ L c .loop .p + 8) × (c .byte-end .result ≤ S c .args .l)
-inside c = end-within (L c .loop .p) (S c .args .l) (c .byte-end .result) (c .byte-end .ensures) (c .before .loop-test .taken)
+abbrev L : tie.After-clear-eight Inv-loop μ-loop → tie.At-loop Inv-loop μ-loop
+L c = c .before .before .before
 
-aligned : (c : tie.After-byte-end Inv-loop μ-loop) → L c .loop .p % 8 ≡ 0
-aligned c = L c .loop .inv .1 (c .before .loop-test .taken)
-
-shared-slice-read-clear-byte : tie.Need-shared-slice-read-clear-byte Inv-loop μ-loop
-shared-slice-read-clear-byte c = omega arith
-
-clear-byte-requires : tie.Need-clear-byte-requires Inv-loop μ-loop
-clear-byte-requires c κs = let w = inside (c .before) in (omega (arith, w), omega (arith, w), omega (arith, w))
+abbrev S : tie.At-loop Inv-loop μ-loop → tie.Start Inv-loop μ-loop
+S c = c .before .before .before
 
 returns : tie.Need-returns Inv-loop μ-loop
 returns c =
-    let d = c .before .before .before in
-    let w = inside d in
+    let d = L (c .before) in
+    let s = S d in
     sym
-    (clear-fails (S d .args .map .now) (S d .args .bytes .now) (L d .loop .p) (d .byte-end .result) (aligned d) (omega (arith, w)) (omega (arith, w))
-    (S d .args .l) (omega (arith, w)) (sym (c .before .clear-byte .ensures) ∙ not-true (c .before .clear-byte .result) (c .if1 .taken)))
+    (clear-fails (s .args .map .now) (s .args .bytes .now) (d .loop .p) 8 (d .loop .inv .1) (omega arith) (s .args .l) (omega arith)
+    (sym (c .before .clear-eight .ensures) ∙ not-true (c .before .clear-eight .result) (c .if1 .taken)))
+
+add-p : tie.Need-add-p Inv-loop μ-loop
+add-p c = omega arith
 
 loop-less : tie.Need-loop-less Inv-loop μ-loop
-loop-less c = let w = inside (c .before .before .before) in omega (arith, w)
+loop-less c = omega arith
 
 loop-again : tie.Need-loop-again Inv-loop μ-loop
 loop-again c =
-    let d = c .before .before .before in
-    let w = inside d in (
-      omega (arith, w),
-      (λ h. end-aligned (L d .loop .p) (S d .args .l) (d .byte-end .result) (d .byte-end .ensures) (aligned d) h),
-      clear-passes (S d .args .map .now) (S d .args .bytes .now) (L d .loop .p) (d .byte-end .result) (aligned d) (omega (arith, w)) (omega (arith, w))
-          (sym (c .before .clear-byte .ensures) ∙ not-false (c .before .clear-byte .result) (c .if1 .left)) (L d .loop .inv .2),
+    let d = L (c .before) in
+    let s = S d in (
+      omega arith,
+      omega arith,
+      clear-passes (s .args .map .now) (s .args .bytes .now) (d .loop .p) 8 (d .loop .inv .1) (omega arith) (d .loop .inv .2)
+          (sym (c .before .clear-eight .ensures) ∙ not-false (c .before .clear-eight .result) (c .if1 .left)),
     )
 
 returns-2 : tie.Need-returns-2 Inv-loop μ-loop
 returns-2 c =
-    let s = c .before .before .before .before in
+    let d = c .before .before in
+    let s = S d in
     sym
-    (all-if (λ p. held (s .args .map .now) p || eqb (byteAt (s .args .bytes .now) p) 0) 0 (s .args .l) (λ q l g. c .before .loop .inv .2 q l (omega arith)))
+    (all-if (λ p. held (s .args .map .now) p || eqb (byteAt (s .args .bytes .now) p) 0) 0 (s .args .l) (λ q l g. d .loop .inv .2 q l (omega arith)))
+
+shared-slice-read-clear-few : tie.Need-shared-slice-read-clear-few Inv-loop μ-loop
+shared-slice-read-clear-few c = let d = c .before .if2 .left in omega (arith, d)
+
+sub-clear-few : tie.Need-sub-clear-few Inv-loop μ-loop
+sub-clear-few c = omega arith
+
+clear-few-requires : tie.Need-clear-few-requires Inv-loop μ-loop
+clear-few-requires c κs = (omega arith, omega arith)
+
+returns-3 : tie.Need-returns-3 Inv-loop μ-loop
+returns-3 c =
+    let d = c .before .before .before .before in
+    let s = S d in
+    clear-last (s .args .map .now) (s .args .bytes .now) (d .loop .p) (s .args .l - d .loop .p) (d .loop .inv .1) (omega arith) (d .loop .inv .2)
+    (s .args .l) (omega arith) (c .clear-few .result) (c .clear-few .ensures)
 
 pub unheld-clear-spec : {M : Type 1} → statement M
 unheld-clear-spec =
@@ -79,10 +91,15 @@ unheld-clear-spec =
     Inv-loop
     μ-loop
     loop-holds
-    byte-end-requires
-    shared-slice-read-clear-byte
-    clear-byte-requires
+    add-loop
+    shared-slice-read-clear-eight
+    clear-eight-requires
     returns
+    add-p
     loop-less
     loop-again
-    returns-2)
+    returns-2
+    shared-slice-read-clear-few
+    sub-clear-few
+    clear-few-requires
+    returns-3)

@@ -1,12 +1,12 @@
--- `record::reading::byte_end` meets its contract: eight positions further, or n.
+-- `record::writing::byte_end` meets its contract: eight positions further, or n.
 -- Assumes nothing.
 use mathlib.Core.Path.{sym, ap}
 use mathlib.Core.Bool.{Bool, cond}
 use Prim.Native.Nat.{_+_}
 use borrow.Author.Tests.{le-leb, lt-leb}
 use borrow.Author.Needs.{needs}
-use Rattle.record.proofs.reading.byte_end.Statement.{statement}
-use Rattle.record.proofs.reading.byte_end.Tie as tie
+use Rattle.record.proofs.writing.byte_end.Statement.{statement}
+use Rattle.record.proofs.writing.byte_end.Tie as tie
 
 add-if1 : tie.Need-add-if1
 add-if1 c = search needs
