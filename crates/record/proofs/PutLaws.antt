@@ -1,11 +1,12 @@
 -- Laws of writing a record: the values of a rule written one run behind the other, and the bytes of its map.
 -- Assumes nothing.
-use mathlib.Core.Path.{_≡_, sym, ap, ap₂, _∙_}
+use mathlib.Core.Path.{_≡_, refl, sym, ap, ap₂, _∙_}
 use mathlib.Core.Bool.{Bool, true, false, cond, _&&_}
 use mathlib.Core.Logic.{⊎-elim}
 use mathlib.Core.List.{List, [], _∷_}
 use Prim.Native.Nat.{ℕ, _+_, _-_, _*_, _/_, _%_, _^_, _≤_, _<_}
 use native.Mathlib.Nat.{zero-add, mod-le, mod-lt}
+use native.Mathlib.Numerals.{unary-clauses}
 use native.Mathlib.Omega.{arith}
 use lib.ListN.{length, set}
 use lib.Pow.{pow-pos}
@@ -13,9 +14,9 @@ use borrow.Author.Tests.{eqb-true, eqb-false, lt-ltb, le-ltb}
 use Rattle.reason.proofs.Bools.{le-or-lt}
 use Rattle.octets.specs.Numbers.{byteAt}
 use Rattle.octets.specs.Values.{valuesFrom}
-use Rattle.octets.specs.Runs.{putIn}
+use Rattle.octets.specs.Runs.{putIn, Put}
 use Rattle.octets.proofs.ValueLaws.{values-long, values-alike}
-use Rattle.octets.proofs.RunLaws.{put-length, put-one, put-values}
+use Rattle.octets.proofs.RunLaws.{put-fits, put-length, put-one, put-values}
 use Rattle.positions.specs.Map.{bit, isSet, held, bitsFrom}
 use Rattle.positions.proofs.BitLaws.{bit-lt, bits-ext, bits-below, bit-from, set-low, set-high}
 use Rattle.positions.proofs.MapLaws.{held-in}
@@ -38,6 +39,16 @@ put-value f out at i n so-far is v h e =
     put-one so-far (at + n) v (omega arith)
     ∙ ap₂ (λ (l : List ℕ) (x : ℕ). putIn l (at + n) (x ∷ [])) is e
     ∙ put-values f out at i n 1 (omega arith)
+
+-- eight values, made one by one
+pub eight-values : (f : ℕ → ℕ) (i a b c d e g h k : ℕ) → a ≡ f i → b ≡ f (i + 1) → c ≡ f (i + 2) → d ≡ f (i + 3) → e ≡ f (i + 4) → g ≡ f (i + 5)
+    → h ≡ f (i + 6) → k ≡ f (i + 7) → (a ∷ b ∷ c ∷ d ∷ e ∷ g ∷ h ∷ k ∷ []) ≡ valuesFrom f i 8
+eight-values f i a b c d e g h k r0 r1 r2 r3 r4 r5 r6 r7 = rw (r0, r1, r2, r3, r4, r5, r6, r7) (simp unary-clauses refl)
+
+-- .. and written as one run
+pub put-eight : (f : ℕ → ℕ) (out : List ℕ) (at i : ℕ) (run : List ℕ) (r : Bool) (left : List ℕ) → at + 8 ≤ length out → run ≡ valuesFrom f i 8
+    → Put out at run r left → left ≡ putIn out at (valuesFrom f i 8)
+put-eight f out at i run r left h is p = put-fits out at (valuesFrom f i 8) r left (rw is at p) h .1
 
 -- the values of positions from 0 on, as a loop meets them: those below p are written
 module _ (f : ℕ → ℕ) (out : List ℕ) (at p : ℕ) (so-far : List ℕ) (is : so-far ≡ putIn out at (valuesFrom f 0 p)) where

@@ -88,34 +88,52 @@ fn saved_at(b: u8, buffer: &[u8], from: usize, p: usize) -> u8
     if (b >> (p - from)) & 1 == 1 { byte } else { 0 }
 }
 
-// Copies the bytes of the eight positions from `from` on into the target: position p at the place `at` + p.
-// Eight turns, whatever is copied, are unrolled by the compiler.
-fn copy_eight(buffer: &[u8], from: usize, target: &mut [u8], at: usize)
-    requires { ⌜ (from + 8 ≤ length (now buffer)) × (at + from + 8 ≤ length (now target)) ⌝ }
-    ensures { λ _. ⌜ now (target .exit) ≡ putIn (now (target .entry)) (at + from) (valuesFrom (byteAt (now (buffer .entry))) from 8) ⌝ }
+// The bytes of the eight positions from `from` on.
+fn eight_at(buffer: &[u8], from: usize) -> [u8; 8]
+    requires { ⌜ from + 8 ≤ length (now buffer) ⌝ }
+    ensures { λ r. ⌜ r ≡ valuesFrom (byteAt (now (buffer .entry))) from 8 ⌝ }
 {
-    let mut k = 0;
-    while k < 8 {
-        target[at + from + k] = buffer[from + k];
-        k += 1;
-    }
+    [
+        buffer[from],
+        buffer[from + 1],
+        buffer[from + 2],
+        buffer[from + 3],
+        buffer[from + 4],
+        buffer[from + 5],
+        buffer[from + 6],
+        buffer[from + 7],
+    ]
 }
 
-// Writes the bytes of the eight positions from `from` on, by their bits in a byte, likewise. Those of a full
-// byte are copied.
+// The same where they are held, by their bits in a byte, and else 0.
+fn eight_saved(b: u8, buffer: &[u8], from: usize) -> [u8; 8]
+    requires { ⌜ from + 8 ≤ length (now buffer) ⌝ }
+    ensures { λ r. ⌜ r ≡ valuesFrom (byteSaved b (now (buffer .entry)) from) from 8 ⌝ }
+{
+    [
+        saved_at(b, buffer, from, from),
+        saved_at(b, buffer, from, from + 1),
+        saved_at(b, buffer, from, from + 2),
+        saved_at(b, buffer, from, from + 3),
+        saved_at(b, buffer, from, from + 4),
+        saved_at(b, buffer, from, from + 5),
+        saved_at(b, buffer, from, from + 6),
+        saved_at(b, buffer, from, from + 7),
+    ]
+}
+
+// Writes the bytes of the eight positions from `from` on, by their bits in a byte, into the target: position
+// p at the place `at` + p. All eight are read before one is written: the compiler takes them at once then, as
+// it need not ask whether a write changes what is read next. Those of a full byte are taken as they are.
 fn put_eight(b: u8, buffer: &[u8], from: usize, target: &mut [u8], at: usize)
     requires { ⌜ (from + 8 ≤ length (now buffer)) × (at + from + 8 ≤ length (now target)) ⌝ }
     ensures { λ _. ⌜ now (target .exit) ≡ putIn (now (target .entry)) (at + from) (valuesFrom (byteSaved b (now (buffer .entry)) from) from 8) ⌝ }
 {
     if b == 255 {
-        copy_eight(buffer, from, target, at);
+        octets::put(target, at + from, &eight_at(buffer, from));
         return;
     }
-    let mut k = 0;
-    while k < 8 {
-        target[at + from + k] = saved_at(b, buffer, from, from + k);
-        k += 1;
-    }
+    octets::put(target, at + from, &eight_saved(b, buffer, from));
 }
 
 // Writes the bytes of the positions from `from` on and below `end`, by their bits in a byte, likewise.
