@@ -5,17 +5,18 @@ use mathlib.Core.Bool.{Bool, true, false, cond, _&&_}
 use mathlib.Core.Logic.{⊎-elim}
 use mathlib.Core.List.{List, [], _∷_}
 use Prim.Native.Nat.{ℕ, _+_, _-_, _*_, _/_, _%_, _^_, _≤_, _<_}
-use native.Mathlib.Nat.{zero-add, mod-le, mod-lt}
+use native.Mathlib.Nat.{zero-add, mod-le, mod-lt, mod-eq-of-lt, lt-of-lt-of-le}
 use native.Mathlib.Numerals.{unary-clauses}
 use native.Mathlib.Omega.{arith}
-use lib.ListN.{length, set}
-use lib.Pow.{pow-pos}
+use lib.ListN.{length, set, take}
+use lib.Pow.{pow-pos, pow-mono}
+use lib.Seq.{length-take-le, getD-take, ext-getD}
 use borrow.Author.Tests.{eqb-true, eqb-false, lt-ltb, le-ltb}
 use Rattle.reason.proofs.Bools.{le-or-lt}
-use Rattle.octets.specs.Numbers.{byteAt}
+use Rattle.octets.specs.Numbers.{byteAt, AllBytes}
 use Rattle.octets.specs.Values.{valuesFrom}
 use Rattle.octets.specs.Runs.{putIn, Put}
-use Rattle.octets.proofs.ValueLaws.{values-long, values-alike}
+use Rattle.octets.proofs.ValueLaws.{value-at, values-long, values-alike}
 use Rattle.octets.proofs.RunLaws.{put-fits, put-length, put-one, put-values}
 use Rattle.positions.specs.Map.{bit, isSet, held, bitsFrom}
 use Rattle.positions.proofs.BitLaws.{bit-lt, bits-ext, bits-below, bit-from, set-low, set-high}
@@ -31,6 +32,11 @@ pub same-long : (f : ℕ → ℕ) (out : List ℕ) (at i n : ℕ) (so-far : List
     → length so-far ≡ length out
 same-long f out at i n so-far h is = let a = values-long f i n in ap length is ∙ put-length out at (valuesFrom f i n) (omega (arith, a))
 
+-- a run of values, written by `put`
+pub put-all : (f : ℕ → ℕ) (out : List ℕ) (at i n : ℕ) (run : List ℕ) (r : Bool) (left : List ℕ) → at + n ≤ length out → run ≡ valuesFrom f i n
+    → Put out at run r left → left ≡ putIn out at (valuesFrom f i n)
+put-all f out at i n run r left h is p = let a = values-long f i n in put-fits out at (valuesFrom f i n) r left (rw is at p) (omega (arith, a)) .1
+
 -- one value more behind the n that are written
 pub put-value : (f : ℕ → ℕ) (out : List ℕ) (at i n : ℕ) (so-far : List ℕ) → so-far ≡ putIn out at (valuesFrom f i n)
     → (v : ℕ) → at + n < length out → v ≡ f (i + n) → set so-far (at + n) v ≡ putIn out at (valuesFrom f i (n + 1))
@@ -44,11 +50,6 @@ put-value f out at i n so-far is v h e =
 pub eight-values : (f : ℕ → ℕ) (i a b c d e g h k : ℕ) → a ≡ f i → b ≡ f (i + 1) → c ≡ f (i + 2) → d ≡ f (i + 3) → e ≡ f (i + 4) → g ≡ f (i + 5)
     → h ≡ f (i + 6) → k ≡ f (i + 7) → (a ∷ b ∷ c ∷ d ∷ e ∷ g ∷ h ∷ k ∷ []) ≡ valuesFrom f i 8
 eight-values f i a b c d e g h k r0 r1 r2 r3 r4 r5 r6 r7 = rw (r0, r1, r2, r3, r4, r5, r6, r7) (simp unary-clauses refl)
-
--- .. and written as one run
-pub put-eight : (f : ℕ → ℕ) (out : List ℕ) (at i : ℕ) (run : List ℕ) (r : Bool) (left : List ℕ) → at + 8 ≤ length out → run ≡ valuesFrom f i 8
-    → Put out at run r left → left ≡ putIn out at (valuesFrom f i 8)
-put-eight f out at i run r left h is p = put-fits out at (valuesFrom f i 8) r left (rw is at p) h .1
 
 -- the values of positions from 0 on, as a loop meets them: those below p are written
 module _ (f : ℕ → ℕ) (out : List ℕ) (at p : ℕ) (so-far : List ℕ) (is : so-far ≡ putIn out at (valuesFrom f 0 p)) where
@@ -89,6 +90,21 @@ low-byte l m i b h =
     let few = mod-le (byteAt m i) (2 ^ (l - i * 8)) in
     bits-ext 8 (byteAt m i % 2 ^ (l - i * 8)) (bitsFrom (heldOf l m) (i * 8) 8) (omega (arith, few, b)) (bits-below (heldOf l m) (i * 8) 8)
     (λ k g. bit-is (byteAt m i % 2 ^ (l - i * 8)) k (heldOf l m (i * 8 + k)) (low-bit l m i k h g) ∙ sym (bit-from (heldOf l m) (i * 8) 8 k g))
+
+-- those of the bytes that have no spare bits are the bytes themselves
+whole-byte : (l : ℕ) (m : List ℕ) (i : ℕ) → byteAt m i < 256 → (i + 1) * 8 ≤ l → byteAt m i ≡ bitsFrom (heldOf l m) (i * 8) 8
+whole-byte l m i b h =
+    let k : 8 ≤ l - i * 8 = omega arith in
+    sym (mod-eq-of-lt (lt-of-lt-of-le b (pow-mono k))) ∙ low-byte l m i b (omega arith)
+
+pub whole-bytes : (l : ℕ) (m : List ℕ) (n : ℕ) → AllBytes m → n * 8 ≤ l → n ≤ length m
+    → take n m ≡ valuesFrom (λ i. bitsFrom (heldOf l m) (i * 8) 8) 0 n
+whole-bytes l m n b h g =
+    let long = length-take-le n m g in
+    ext-getD 0 (take n m) (valuesFrom (λ i. bitsFrom (heldOf l m) (i * 8) 8) 0 n) (long ∙ sym (values-long (λ i. bitsFrom (heldOf l m) (i * 8) 8) 0 n))
+    (λ i k.
+    let j : i < n = omega (arith, long, k) in
+    getD-take n m i 0 j ∙ whole-byte l m i (b i) (omega arith) ∙ sym (value-at (λ i. bitsFrom (heldOf l m) (i * 8) 8) 0 n i j))
 
 -- ---- the bytes of a file, unheld ones as zero
 -- .. of the positions of a map byte, by their bits

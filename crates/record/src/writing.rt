@@ -66,15 +66,16 @@ fn lowest(b: u8, n: usize) -> u8
     b & ((1 << n) - 1)
 }
 
-// Writes the map of a file of l bytes into the target from a place on, without its spare bits.
+// Writes the map of a file of l bytes into the target from a place on, without its spare bits: only its last
+// byte has any.
 fn put_map(map: &[u8], l: usize, target: &mut [u8], at: usize)
     requires { ⌜ (l ≤ longest) × (mapSize l ≤ length (now map)) × (at + mapSize l ≤ length (now target)) ⌝ }
     ensures { λ _. ⌜ now (target .exit) ≡ putIn (now (target .entry)) at (savedMap l (now (map .entry))) ⌝ }
 {
-    let mut i = 0;
-    while i * 8 < l {
+    let i = l / 8;
+    octets::put(target, at, &map[..i]);
+    if i * 8 < l {
         target[at + i] = lowest(map[i], l - i * 8);
-        i += 1;
     }
 }
 

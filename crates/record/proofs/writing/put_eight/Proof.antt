@@ -1,6 +1,6 @@
 -- `record::writing::put_eight` meets its contract: eight values are written as one run.
 -- Assumes nothing.
-use mathlib.Core.Path.{_≡_, sym, ap, _∙_}
+use mathlib.Core.Path.{_≡_, _∙_}
 use mathlib.Core.List.{List}
 use Prim.Native.Nat.{ℕ, _+_}
 use native.Mathlib.Omega.{arith}
@@ -9,7 +9,7 @@ use Rattle.octets.specs.Numbers.{byteAt}
 use Rattle.octets.specs.Values.{valuesFrom}
 use Rattle.octets.specs.Runs.{putIn}
 use Rattle.record.specs.Inner.{byteSaved}
-use Rattle.record.proofs.PutLaws.{same-long, put-eight, full-saved}
+use Rattle.record.proofs.PutLaws.{same-long, put-all, full-saved}
 use Rattle.record.proofs.writing.put_eight.Statement.{statement}
 use Rattle.record.proofs.writing.put_eight.Tie as tie
 
@@ -35,7 +35,7 @@ copied : (c : tie.After-put) → c .put .last .0 ≡ Left (c .before .before .be
 copied c =
     let e = c .before .before in
     let s = e .before .before .before .before .before in
-    put-eight (F s) (s .args .target .now) (s .args .at + s .args .from) (s .args .from) (e .eight-at .result) _ (c .put .last .0) (omega arith)
+    put-all (F s) (s .args .target .now) (s .args .at + s .args .from) (s .args .from) 8 (e .eight-at .result) _ (c .put .last .0) (omega arith)
     (e .eight-at .ensures ∙ full-saved (s .args .b) (s .args .buffer .now) (s .args .from) (e .before .before .if1 .taken))
     (c .put .ensures)
 
@@ -63,7 +63,7 @@ chosen : (c : tie.After-put2) → c .put2 .last .0 ≡ Left (c .before .before .
 chosen c =
     let e = c .before .before in
     let s = e .before .before .before .before .before in
-    put-eight (F s) (s .args .target .now) (s .args .at + s .args .from) (s .args .from) (e .eight-saved .result) _ (c .put2 .last .0) (omega arith)
+    put-all (F s) (s .args .target .now) (s .args .at + s .args .from) (s .args .from) 8 (e .eight-saved .result) _ (c .put2 .last .0) (omega arith)
     (e .eight-saved .ensures) (c .put2 .ensures)
 
 same-length-2 : tie.Need-same-length-2
