@@ -1,0 +1,161 @@
+//! Reading directory entries and their headers: every rule kept and broken, faults, and damaged ones.
+use crate::both::{Both, Part};
+use crate::made::entry::{self, Broken, BROKEN, MANDATORY};
+use crate::random::Random;
+use crate::{damage, faults};
+
+pub fn round(both: &mut Both, random: &mut Random) {
+    every_fault(both, random);
+    match random.below(16) {
+        0 => every_cut(both, random),
+        1 => every_flag(both, random),
+        2 => every_size(both, random),
+        3 | 4 => every_pair(both, random),
+        5 | 6 => every_rule(both, random),
+        7 => every_header_byte(both, random),
+        _ => many(both, random),
+    }
+}
+
+// Each fault alone is refused with its own reason.
+fn every_fault(both: &mut Both, random: &mut Random) {
+    for fault in faults::ENTRY {
+        let mut draft = entry::any(random);
+        faults::plant(random, &mut draft, fault);
+        let frame = draft.bytes();
+        let refused = both.entry(&frame).answer.err();
+        let right = fault.reason().is_none() || refused == fault.reason();
+        both.claim(right, &format!("a frame with the fault {fault:?} has its reason"), &[Part::Bytes("frame", &frame)]);
+    }
+}
+
+fn every_cut(both: &mut Both, random: &mut Random) {
+    let frame = entry::any(random).bytes();
+    for size in 0..=frame.len() {
+        let mut cut = frame[..size].to_vec();
+        both.entry(&cut);
+        damage::repair_check(&mut cut);
+        both.entry(&cut);
+    }
+}
+
+fn every_flag(both: &mut Both, random: &mut Random) {
+    let mut draft = entry::any(random);
+    for flags in 0..=255 {
+        draft.information[0] = flags;
+        both.entry(&draft.bytes());
+    }
+}
+
+// An extra item that fills the information up to 255 bytes, and a little beyond.
+fn every_size(both: &mut Both, random: &mut Random) {
+    for size in (19..30).chain(245..=262) {
+        let mut draft = entry::any(random);
+        let mut bytes = draft.information.clone();
+        bytes.extend(random.bytes(size));
+        draft.information = bytes[..size - 2].to_vec();
+        both.entry(&draft.bytes());
+    }
+    for _ in 0..20 {
+        let mut draft = entry::any(random);
+        let number = draft.information[1..5].to_vec();
+        draft.information.truncate(17);
+        let size = random.within(250, 259);
+        draft.information.extend(filled_header(random, &number, size));
+        both.entry(&draft.bytes());
+    }
+}
+
+// A right header so long that the information has this size.
+fn filled_header(random: &mut Random, number: &[u8], size: usize) -> Vec<u8> {
+    let length = size - 19;
+    let mut header = vec![0xAA, 0x55];
+    for (id, data) in MANDATORY {
+        header.extend([id as u8, 0, data as u8]);
+        let value = match id {
+            1 => number.to_vec(),
+            4 => vec![0xFF; 4],
+            10 => vec![0; 2],
+            11 => (length as u16).to_le_bytes().to_vec(),
+            _ => random.bytes(data),
+        };
+        header.extend(value);
+    }
+    let extra = length - 73 - 3;
+    header.extend([0x20, 0, extra as u8]);
+    header.extend(random.bytes(extra));
+    header.extend([0; 3]);
+    let sum: u32 = header.iter().map(|&byte| u32::from(byte)).sum();
+    let place = header.windows(3).position(|bytes| bytes == [0x0A, 0, 2]).expect("item 0A is there") + 3;
+    header[place..place + 2].copy_from_slice(&(sum as u16).to_le_bytes());
+    header
+}
+
+fn every_pair(both: &mut Both, random: &mut Random) {
+    for first in faults::ENTRY {
+        for second in faults::ENTRY {
+            let mut draft = entry::any(random);
+            faults::plant(random, &mut draft, first);
+            faults::plant(random, &mut draft, second);
+            both.entry(&draft.bytes());
+        }
+    }
+}
+
+// Each rule of the header broken alone, and with another one.
+fn every_rule(both: &mut Both, random: &mut Random) {
+    for rule in BROKEN {
+        for _ in 0..4 {
+            let frame = entry::with(random, &[rule]).bytes();
+            let refused = both.entry(&frame).answer == Err(8);
+            let input = [Part::Bytes("frame", &frame)];
+            both.claim(refused, &format!("a header with the rule {rule:?} broken is 8"), &input);
+        }
+        let second = random.pick(&BROKEN);
+        both.entry(&entry::with(random, &[rule, second]).bytes());
+    }
+}
+
+// Every byte of the header changed, with the sum and the check made right again.
+fn every_header_byte(both: &mut Both, random: &mut Random) {
+    let frame = entry::any(random).bytes();
+    for place in 16..frame.len() {
+        let mut changed = frame.clone();
+        changed[place] = if random.chance(50) { changed[place].wrapping_add(1) } else { random.byte() };
+        damage::repair_sum(&mut changed);
+        damage::repair_check(&mut changed);
+        both.entry(&changed);
+    }
+}
+
+fn many(both: &mut Both, random: &mut Random) {
+    for _ in 0..60 {
+        let frame = one(random);
+        if random.chance(10) {
+            both.read_as_all(&frame);
+        } else {
+            both.entry(&frame);
+        }
+    }
+}
+
+/// An entry that is right, has a fault, breaks rules of its header, or is damaged.
+pub fn one(random: &mut Random) -> Vec<u8> {
+    let rules: [Broken; 2] = [random.pick(&BROKEN), random.pick(&BROKEN)];
+    match random.below(10) {
+        0..=2 => entry::any(random).bytes(),
+        3 => entry::with(random, &rules[..1]).bytes(),
+        4 => entry::with(random, &rules).bytes(),
+        5 | 6 => {
+            let count = random.below(3);
+            let mut draft = entry::with(random, &rules[..count]);
+            faults::single(random, &mut draft, &faults::ENTRY);
+            draft.bytes()
+        }
+        _ => {
+            let mut frame = entry::any(random).bytes();
+            damage::frame(random, &mut frame);
+            frame
+        }
+    }
+}

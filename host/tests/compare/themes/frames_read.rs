@@ -1,0 +1,86 @@
+//! The types of frames that are read, and the request for a start, beside the model.
+use super::{entries, pieces, requests_read};
+use crate::both::{Both, Part};
+use crate::made::{address, address_of, file_number};
+use crate::model;
+use crate::random::Random;
+use crate::tally::ACCEPTED;
+use thoweldeck::{Address, Asks, Entry, Piece, Request};
+
+pub fn round(both: &mut Both, random: &mut Random) {
+    piece(both, &pieces::one(random));
+    entry(both, &entries::one(random));
+    request(both, &requests_read::one(random));
+    start(both, random);
+}
+
+fn plain(address: Address) -> model::Address {
+    address_of(address.to_number())
+}
+
+/// The library's address for a well formed one of the model.
+pub fn made(address: model::Address) -> Address {
+    let callsign = String::from_utf8(address.characters.to_vec()).expect("letters and digits");
+    Address::new(callsign.trim_end(), address.number).expect("a right address")
+}
+
+// Where the bytes lie in the frame, whose own they are.
+fn place_in(frame: &[u8], bytes: &[u8]) -> (usize, usize) {
+    ((bytes.as_ptr() as usize).wrapping_sub(frame.as_ptr() as usize), bytes.len())
+}
+
+fn piece(both: &mut Both, frame: &[u8]) {
+    let library = Piece::read(frame).map(|piece| {
+        let (start, size) = place_in(frame, piece.bytes);
+        let Piece { number, kind, offset, .. } = piece;
+        let (destination, source) = (plain(piece.destination), plain(piece.source));
+        model::Piece { destination, source, number, kind, offset, start, size }
+    });
+    both.alike("Piece::read", &[Part::Bytes("frame", frame)], library, model::piece(frame));
+}
+
+fn entry(both: &mut Both, frame: &[u8]) {
+    let library = Entry::read(frame).map(|entry| {
+        let (start, size) = place_in(frame, entry.bytes);
+        let Entry { flags, number, offset, old, new, .. } = entry;
+        let (destination, source, header) = (plain(entry.destination), plain(entry.source), header(entry.header));
+        model::Entry { destination, source, flags, number, offset, old, new, start, size, header }
+    });
+    both.alike("Entry::read", &[Part::Bytes("frame", frame)], library, model::entry(frame));
+}
+
+fn header(header: thoweldeck::Header) -> model::Header {
+    model::Header {
+        name: header.name,
+        extension: header.extension,
+        size: header.size,
+        created: header.created,
+        modified: header.modified,
+        upset: header.upset,
+        kind: header.kind,
+        bodysum: header.bodysum,
+        headersum: header.headersum,
+        body: header.body,
+        upload: header.upload,
+    }
+}
+
+fn request(both: &mut Both, frame: &[u8]) {
+    let library = Request::read(frame).map(|request| {
+        let (flags, holes) = match request.asks {
+            Asks::Start => (0x10, Vec::new()),
+            Asks::Holes(holes) => (0x11, holes.iter().map(|hole| (hole.start, hole.length)).collect()),
+        };
+        let (destination, source) = (plain(request.destination), plain(request.source));
+        model::Request { destination, source, flags, number: request.number, holes }
+    });
+    both.alike("Request::read", &[Part::Bytes("frame", frame)], library, model::read_request(frame));
+}
+
+fn start(both: &mut Both, random: &mut Random) {
+    let (destination, source, number) = (address(random), address(random), file_number(random));
+    let library = Request::start(made(destination), made(source), number);
+    let mut model = vec![0; 23];
+    model::write_start(destination, source, number, &mut model).expect("right addresses and enough space");
+    both.equal(("Request::start", ACCEPTED), &[Part::Number("number", number.into())], library, model);
+}
