@@ -1,4 +1,4 @@
--- `reception::eights::copy_byte` meets its contract: all eight, or the positions so far, are copied.
+-- `reception::eights::copy_byte` meets its contract: all eight, or those so far, are copied.
 -- Assumes nothing.
 use mathlib.Core.Path.{_≡_, subst}
 use mathlib.Core.Bool.{Bool}
