@@ -8,6 +8,8 @@ use Prim.Native.Nat.{ℕ, _+_, _-_, _*_, _/_, _%_, _^_, _≤_, _<_}
 use native.Mathlib.Nat.{zero-add, mod-le, mod-lt, mod-eq-of-lt, lt-of-lt-of-le}
 use native.Mathlib.Numerals.{unary-clauses}
 use native.Mathlib.Omega.{arith}
+use lib.Bits.{bitAnd, and-mask, and-zero-r}
+use lib.Dec.{eqb}
 use lib.ListN.{length, set, take}
 use lib.Pow.{pow-pos, pow-mono}
 use lib.Seq.{length-take-le, getD-take, ext-getD}
@@ -19,12 +21,12 @@ use Rattle.octets.specs.Runs.{putIn, Put}
 use Rattle.octets.proofs.ValueLaws.{value-at, values-long, values-alike}
 use Rattle.octets.proofs.RunLaws.{put-fits, put-length, put-one, put-values}
 use Rattle.positions.specs.Map.{bit, isSet, held, bitsFrom}
-use Rattle.positions.proofs.BitLaws.{bit-lt, bits-ext, bits-below, bit-from, set-low, set-high}
+use Rattle.positions.proofs.BitLaws.{bit-lt, bits-ext, and-one, bits-below, bit-from, set-low, set-high}
 use Rattle.positions.proofs.MapLaws.{held-in}
 use Rattle.reception.specs.Held.{heldOf}
 use Rattle.reception.proofs.JoinSteps.{bit-of}
 use Rattle.record.specs.Inner.{byteSaved}
-use Rattle.record.proofs.ReadSteps.{full-set}
+use Rattle.record.proofs.ReadSteps.{bit-test, full-set}
 
 -- ---- written into a list
 -- writing values leaves the list as long as it was
@@ -101,7 +103,8 @@ pub whole-bytes : (l : ℕ) (m : List ℕ) (n : ℕ) → AllBytes m → n * 8 �
     → take n m ≡ valuesFrom (λ i. bitsFrom (heldOf l m) (i * 8) 8) 0 n
 whole-bytes l m n b h g =
     let long = length-take-le n m g in
-    ext-getD 0 (take n m) (valuesFrom (λ i. bitsFrom (heldOf l m) (i * 8) 8) 0 n) (long ∙ sym (values-long (λ i. bitsFrom (heldOf l m) (i * 8) 8) 0 n))
+    ext-getD 0 (take n m) (valuesFrom (λ i. bitsFrom (heldOf l m) (i * 8) 8) 0 n)
+    (long ∙ sym (values-long (λ i. bitsFrom (heldOf l m) (i * 8) 8) 0 n))
     (λ i k.
     let j : i < n = omega (arith, long, k) in
     getD-take n m i 0 j ∙ whole-byte l m i (b i) (omega arith) ∙ sym (value-at (λ i. bitsFrom (heldOf l m) (i * 8) 8) 0 n i j))
@@ -114,13 +117,22 @@ saved-byte m b from end a low high =
     values-alike (byteSaved (byteAt m (from / 8)) b from) (λ p. cond (held m p) (byteAt b p) 0) from (end - from)
     (λ q l g. ap (λ (w : Bool). cond w (byteAt b q) 0) (bit-of m from q a l (omega arith)))
 
--- one byte, by its bit
-pub byte-of-held : (b : ℕ) (d : List ℕ) (from p : ℕ) → isSet b (p - from) ≡ true → byteAt d p ≡ byteSaved b d from p
-byte-of-held b d from p e = rw e
+-- one byte, masked by its bit
+masked : (x v : ℕ) → x < 256 → v < 2 → bitAnd x (255 * v) ≡ cond (eqb v 1) x 0
+masked x v h g = by (eqb v 1) refl
+  where
+    by : (b : Bool) → eqb v 1 ≡ b → bitAnd x (255 * v) ≡ cond b x 0
+    by true e = let w = eqb-true v 1 e in let n : 255 * v ≡ 255 = omega (arith, w) in ap (bitAnd x) n ∙ and-mask x 8 ∙ mod-eq-of-lt h
+    by false e = let w = eqb-false v 1 e in let n : 255 * v ≡ 0 = omega (arith, w) in ap (bitAnd x) n ∙ and-zero-r x
 
-pub byte-of-unheld : (b : ℕ) (d : List ℕ) (from p : ℕ) → isSet b (p - from) ≡ false → _≡_ {A = ℕ} 0 (byteSaved b d from p)
-byte-of-unheld b d from p e = rw e
+pub byte-masked : (b : ℕ) (d : List ℕ) (from p : ℕ) → byteAt d p < 256
+    → bitAnd (byteAt d p) (255 * bitAnd (b / 2 ^ (p - from)) 1) ≡ byteSaved b d from p
+byte-masked b d from p h =
+    let e = and-one (b / 2 ^ (p - from)) in
+    masked (byteAt d p) (bitAnd (b / 2 ^ (p - from)) 1) h (omega (arith, e)) ∙ ap (λ (w : Bool). cond w (byteAt d p) 0) (bit-test b (p - from))
 
 -- those of a full byte are the bytes as they are
 pub full-saved : (b : ℕ) (d : List ℕ) (from : ℕ) → b ≡ 255 → valuesFrom (byteAt d) from 8 ≡ valuesFrom (byteSaved b d from) from 8
-full-saved b d from e = values-alike (byteAt d) (byteSaved b d from) from 8 (λ p l h. byte-of-held b d from p (full-set b (p - from) e (omega arith)))
+full-saved b d from e =
+    values-alike (byteAt d) (byteSaved b d from) from 8
+    (λ p l h. sym (ap (λ (w : Bool). cond w (byteAt d p) 0) (full-set b (p - from) e (omega arith))))

@@ -119,12 +119,6 @@ pub bit-test : (b k : ℕ) → eqb (bitAnd (b / 2 ^ k) 1) 1 ≡ isSet b k
 unfolding bit
 bit-test b k = ap (λ (x : ℕ). eqb x 1) (and-one (b / 2 ^ k))
 
-pub bit-told : (b k : ℕ) → bitAnd (b / 2 ^ k) 1 ≡ 1 → isSet b k ≡ true
-bit-told b k e = sym (bit-test b k) ∙ eq-eqb (bitAnd (b / 2 ^ k) 1) 1 e
-
-pub bit-not-told : (b k : ℕ) → (bitAnd (b / 2 ^ k) 1 ≡ 1 → ⊥) → isSet b k ≡ false
-bit-not-told b k d = sym (bit-test b k) ∙ ne-eqb (bitAnd (b / 2 ^ k) 1) 1 d
-
 -- no position, and one more behind the others
 pub every-none : (test : ℕ → Bool) (p : ℕ) → every test p 0 ≡ true
 unfolding every

@@ -80,16 +80,17 @@ fn put_map(map: &[u8], l: usize, target: &mut [u8], at: usize)
 }
 
 // The byte of position p where it is held, by its bit in the byte of the eight positions from `from` on,
-// and else 0. The byte is read before the test, so that the choice needs no branch.
+// and else 0. It is read and masked in any case: of a choice the compiler makes a branch.
 fn saved_at(b: u8, buffer: &[u8], from: usize, p: usize) -> u8
     requires { ⌜ (from ≤ p) × (p < from + 8) × (p < length (now buffer)) ⌝ }
     ensures { λ r. ⌜ r ≡ byteSaved b (now (buffer .entry)) from p ⌝ }
 {
-    let byte = buffer[p];
-    if (b >> (p - from)) & 1 == 1 { byte } else { 0 }
+    let held = (b >> (p - from)) & 1;
+    buffer[p] & (255 * held)
 }
 
-// The bytes of the eight positions from `from` on.
+// The bytes of the eight positions from `from` on. By way of an array all are read before one is written,
+// and the compiler takes them at once; else it must ask whether a write changes what is read next.
 fn eight_at(buffer: &[u8], from: usize) -> [u8; 8]
     requires { ⌜ from + 8 ≤ length (now buffer) ⌝ }
     ensures { λ r. ⌜ r ≡ valuesFrom (byteAt (now (buffer .entry))) from 8 ⌝ }
@@ -106,26 +107,9 @@ fn eight_at(buffer: &[u8], from: usize) -> [u8; 8]
     ]
 }
 
-// The same where they are held, by their bits in a byte, and else 0.
-fn eight_saved(b: u8, buffer: &[u8], from: usize) -> [u8; 8]
-    requires { ⌜ from + 8 ≤ length (now buffer) ⌝ }
-    ensures { λ r. ⌜ r ≡ valuesFrom (byteSaved b (now (buffer .entry)) from) from 8 ⌝ }
-{
-    [
-        saved_at(b, buffer, from, from),
-        saved_at(b, buffer, from, from + 1),
-        saved_at(b, buffer, from, from + 2),
-        saved_at(b, buffer, from, from + 3),
-        saved_at(b, buffer, from, from + 4),
-        saved_at(b, buffer, from, from + 5),
-        saved_at(b, buffer, from, from + 6),
-        saved_at(b, buffer, from, from + 7),
-    ]
-}
-
 // Writes the bytes of the eight positions from `from` on, by their bits in a byte, into the target: position
-// p at the place `at` + p. All eight are read before one is written: the compiler takes them at once then, as
-// it need not ask whether a write changes what is read next. Those of a full byte are taken as they are.
+// p at the place `at` + p. Those of a full byte are taken as they are; of another, eight turns, whatever the
+// bits, are unrolled by the compiler.
 fn put_eight(b: u8, buffer: &[u8], from: usize, target: &mut [u8], at: usize)
     requires { ⌜ (from + 8 ≤ length (now buffer)) × (at + from + 8 ≤ length (now target)) ⌝ }
     ensures { λ _. ⌜ now (target .exit) ≡ putIn (now (target .entry)) (at + from) (valuesFrom (byteSaved b (now (buffer .entry)) from) from 8) ⌝ }
@@ -134,7 +118,11 @@ fn put_eight(b: u8, buffer: &[u8], from: usize, target: &mut [u8], at: usize)
         octets::put(target, at + from, &eight_at(buffer, from));
         return;
     }
-    octets::put(target, at + from, &eight_saved(b, buffer, from));
+    let mut k = 0;
+    while k < 8 {
+        target[at + from + k] = saved_at(b, buffer, from, from + k);
+        k += 1;
+    }
 }
 
 // Writes the bytes of the positions from `from` on and below `end`, by their bits in a byte, likewise.
