@@ -14,7 +14,7 @@ use Rattle.octets.specs.Numbers.{byteAt, AllBytes}
 use Rattle.positions.specs.Spans.{every}
 use Rattle.positions.specs.Map.{isSet, held}
 use Rattle.positions.proofs.BitLaws.{set-none, set-and, set-low}
-use Rattle.positions.proofs.SpanLaws.{every-same, part-fails}
+use Rattle.positions.proofs.SpanLaws.{every-same, part-fails, all-if}
 use Rattle.positions.proofs.MapLaws.{held-in}
 use Rattle.reception.specs.Inner.{bitAgrees, bothAgree, MapRun, BufferRun}
 use Rattle.reception.proofs.EightLaws.{then-pass}
@@ -43,6 +43,14 @@ module _ (m b o d : List ℕ) where
       → ((q : ℕ) → 0 ≤ q → q < from → bothAgree m b o d q ≡ true) → (q : ℕ) → 0 ≤ q → q < end → bothAgree m b o d q ≡ true
   byte-passes from end a low high e before =
       then-pass (bothAgree m b o d) 0 from end low (sym (byte-agrees from end a low high) ∙ e) before
+
+  -- the last positions decide
+  pub byte-decides : (from n : ℕ) → from % 8 ≡ 0 → from ≤ n → n ≤ from + 8 → ((q : ℕ) → 0 ≤ q → q < from → bothAgree m b o d q ≡ true)
+      → (r : Bool) → r ≡ every (bitAgrees (bitAnd (byteAt m (from / 8)) (byteAt o (from / 8))) b 0 d from) from (n - from)
+      → r ≡ every (bothAgree m b o d) 0 n
+  byte-decides from n a low high before true e =
+      sym (all-if (bothAgree m b o d) 0 n (λ q l g. byte-passes from n a low high (sym e) before q l (omega arith)))
+  byte-decides from n a low high before false e = sym (byte-fails from n n a low high (omega arith) (sym e))
 
 -- ---- adding one byte
 module _ (m : List ℕ) (theirs from end : ℕ) (a : from % 8 ≡ 0) (low : from ≤ end) (high : end ≤ from + 8) (h : from / 8 < length m) (all : AllBytes m) (small : theirs < 2 ^ (end - from)) where

@@ -93,27 +93,10 @@ end-cases p n = by (leb (p + 8) n) refl (le-or-lt (p + 8) n)
     by true e w = inl (leb-true (p + 8) n e, refl)
     by false e w = inr (leb-false (p + 8) n e, refl)
 
-pub end-within : (p n end : ℕ) → end ≡ upTo p n → p < n → (p < end) × (end ≤ p + 8) × (end ≤ n)
-end-within p n end is h =
-    ⊎-elim
-    (λ w. let a = w .0 in let e = w .1 in (omega (arith, is, e), omega (arith, is, e), omega (arith, is, a, e)))
-    (λ w. let a = w .0 in let e = w .1 in (omega (arith, is, h, e), omega (arith, is, a, e), omega (arith, is, e)))
-    (end-cases p n)
-
--- .. of the byte that a position is in
+-- where the positions of the byte that a position is in end
 pub rest-within : (p n end : ℕ) → end ≡ upTo (p / 8 * 8) n → p < n → (p < end) × (end ≤ p / 8 * 8 + 8) × (end ≤ n)
 rest-within p n end is h =
     ⊎-elim
     (λ w. let a = w .0 in let e = w .1 in (omega (arith, is, e), omega (arith, is, e), omega (arith, is, a, e)))
     (λ w. let a = w .0 in let e = w .1 in (omega (arith, is, h, e), omega (arith, is, a, e), omega (arith, is, e)))
     (end-cases (p / 8 * 8) n)
-
-pub end-aligned : (p n end : ℕ) → end ≡ upTo p n → p % 8 ≡ 0 → end < n → end % 8 ≡ 0
-end-aligned p n end is a h =
-    ⊎-elim
-    (λ w. let e = w .1 in omega (arith, is, a, e))
-    (λ w. absurd (nothing end n (is ∙ w .1) h))
-    (end-cases p n)
-  where
-    nothing : (x n : ℕ) → x ≡ n → x < n → ⊥
-    nothing x n e h = omega arith

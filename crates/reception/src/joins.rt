@@ -11,21 +11,23 @@ ghost use Rattle.reception.specs.Reception.{longest};
 ghost use Rattle.reception.specs.Inner.{bothAgree, MapRun, BufferRun};
 
 // Whether two receptions agree at each position below n that both hold. Bytes of the maps with no such
-// position are passed over.
+// position are passed over; the last one is looked at for itself where it has fewer than eight positions.
 pub(crate) fn agree(map: &[u8], buffer: &[u8], other: &[u8], bytes: &[u8], n: usize) -> bool
     requires { ⌜ (n ≤ longest) × (n ≤ length (now map) * 8) × (n ≤ length (now buffer)) × (n ≤ length (now other) * 8) × (n ≤ length (now bytes)) ⌝ }
     ensures { λ r. ⌜ r ≡ every (bothAgree (now (map .entry)) (now (buffer .entry)) (now (other .entry)) (now (bytes .entry))) 0 n ⌝ }
 {
     let mut p = 0;
-    while p < n {
+    while p + 8 <= n {
         let both = map[p / 8] & other[p / 8];
-        let end = eights::byte_end(p, n);
-        if !eights::agree_byte(both, buffer, 0, bytes, p, end) {
+        if !eights::agree_byte(both, buffer, 0, bytes, p, p + 8) {
             return false;
         }
-        p = end;
+        p += 8;
     }
-    true
+    if p == n {
+        return true;
+    }
+    eights::agree_byte(map[p / 8] & other[p / 8], buffer, 0, bytes, p, n)
 }
 
 // The lowest k bits of a byte.
@@ -71,11 +73,13 @@ pub(crate) fn add(map: &mut [u8], buffer: &mut [u8], other: &[u8], bytes: &[u8],
 {
     let mut new = 0;
     let mut p = 0;
-    while p < n {
-        let end = eights::byte_end(p, n);
-        let theirs = lowest(other[p / 8], end - p);
-        new += add_byte(map, buffer, theirs, bytes, p, end);
-        p = end;
+    while p + 8 <= n {
+        new += add_byte(map, buffer, other[p / 8], bytes, p, p + 8);
+        p += 8;
     }
-    new
+    if p == n {
+        return new;
+    }
+    let theirs = lowest(other[p / 8], n - p);
+    new + add_byte(map, buffer, theirs, bytes, p, n)
 }
