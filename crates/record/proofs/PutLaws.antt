@@ -55,15 +55,13 @@ eight-values f i a b c d e g h k r0 r1 r2 r3 r4 r5 r6 r7 = rw (r0, r1, r2, r3, r
 
 -- the values of positions from 0 on, as a loop meets them: those below p are written
 module _ (f : ℕ → ℕ) (out : List ℕ) (at p : ℕ) (so-far : List ℕ) (is : so-far ≡ putIn out at (valuesFrom f 0 p)) where
-  -- those up to an end are next
-  pub put-run-more : (end : ℕ) (after : List ℕ) → p ≤ end → at + end ≤ length out → after ≡ putIn so-far (at + p) (valuesFrom f p (end - p))
-      → after ≡ putIn out at (valuesFrom f 0 end)
-  put-run-more end after high h next =
-      let e : p + (end - p) ≡ end = omega arith in
+  -- n are next
+  pub put-run-more : (n : ℕ) (after : List ℕ) → at + p + n ≤ length out → after ≡ putIn so-far (at + p) (valuesFrom f p n)
+      → after ≡ putIn out at (valuesFrom f 0 (p + n))
+  put-run-more n after h next =
       next
-      ∙ ap₂ (λ (l : List ℕ) (i : ℕ). putIn l (at + p) (valuesFrom f i (end - p))) is (sym (zero-add p))
-      ∙ put-values f out at 0 p (end - p) (omega arith)
-      ∙ ap (λ (n : ℕ). putIn out at (valuesFrom f 0 n)) e
+      ∙ ap₂ (λ (l : List ℕ) (i : ℕ). putIn l (at + p) (valuesFrom f i n)) is (sym (zero-add p))
+      ∙ put-values f out at 0 p n h
 
   -- one is next
   pub put-one-more : (v : ℕ) → at + p < length out → v ≡ f p → set so-far (at + p) v ≡ putIn out at (valuesFrom f 0 (p + 1))
@@ -110,11 +108,11 @@ whole-bytes l m n b h g =
     getD-take n m i 0 j ∙ whole-byte l m i (b i) (omega arith) ∙ sym (value-at (λ i. bitsFrom (heldOf l m) (i * 8) 8) 0 n i j))
 
 -- ---- the bytes of a file, unheld ones as zero
--- .. of the positions of a map byte, by their bits
-pub saved-byte : (m b : List ℕ) (from end : ℕ) → from % 8 ≡ 0 → from ≤ end → end ≤ from + 8
-    → valuesFrom (byteSaved (byteAt m (from / 8)) b from) from (end - from) ≡ valuesFrom (λ p. cond (held m p) (byteAt b p) 0) from (end - from)
-saved-byte m b from end a low high =
-    values-alike (byteSaved (byteAt m (from / 8)) b from) (λ p. cond (held m p) (byteAt b p) 0) from (end - from)
+-- .. of the first n positions of a map byte, by their bits
+pub saved-byte : (m b : List ℕ) (from n : ℕ) → from % 8 ≡ 0 → n ≤ 8
+    → valuesFrom (byteSaved (byteAt m (from / 8)) b from) from n ≡ valuesFrom (λ p. cond (held m p) (byteAt b p) 0) from n
+saved-byte m b from n a few =
+    values-alike (byteSaved (byteAt m (from / 8)) b from) (λ p. cond (held m p) (byteAt b p) 0) from n
     (λ q l g. ap (λ (w : Bool). cond w (byteAt b q) 0) (bit-of m from q a l (omega arith)))
 
 -- one byte, masked by its bit

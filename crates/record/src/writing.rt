@@ -12,7 +12,6 @@ ghost use lib.ListN.{length};
 ghost use Rattle.octets.specs.Numbers.{byteAt, bytesOf};
 ghost use Rattle.octets.specs.Values.{valuesFrom};
 ghost use Rattle.octets.specs.Runs.{putIn};
-ghost use Rattle.positions.specs.Spans.{upTo};
 ghost use Rattle.positions.specs.Map.{mapSize};
 ghost use Rattle.reception.specs.Reception.{longest, wrongLength};
 ghost use Rattle.record.specs.Record.{field, savedMap, savedBytes, recordOf, recordLength};
@@ -131,10 +130,6 @@ fn put_byte(b: u8, buffer: &[u8], from: usize, end: usize, target: &mut [u8], at
     ensures { λ _. ⌜ now (target .exit) ≡ putIn (now (target .entry)) (at + from) (valuesFrom (byteSaved b (now (buffer .entry)) from) from (end - from)) ⌝ }
 {
     let n = end - from;
-    if n == 8 {
-        put_eight(b, buffer, from, target, at);
-        return;
-    }
     let mut k = 0;
     while k < n {
         target[at + from + k] = saved_at(b, buffer, from, from + k);
@@ -142,25 +137,19 @@ fn put_byte(b: u8, buffer: &[u8], from: usize, end: usize, target: &mut [u8], at
     }
 }
 
-// Where the eight positions from `from` on that are below n end.
-fn byte_end(from: usize, n: usize) -> usize
-    requires { ⌜ from < longest ⌝ }
-    ensures { λ r. ⌜ r ≡ upTo from n ⌝ }
-{
-    if from + 8 <= n { from + 8 } else { n }
-}
-
-// Writes the bytes of a file of l bytes into the target from a place on, unheld ones as zero. A map byte is
-// looked at once.
-fn put_bytes(map: &[u8], buffer: &[u8], l: usize, target: &mut [u8], at: usize)
-    requires { ⌜ (l ≤ longest) × (mapSize l ≤ length (now map)) × (l ≤ length (now buffer)) × (at + l ≤ length (now target)) ⌝ }
-    ensures { λ _. ⌜ now (target .exit) ≡ putIn (now (target .entry)) at (savedBytes l (now (map .entry)) (now (buffer .entry))) ⌝ }
+// Writes the bytes of a file's positions below `end`, its length, into the target from a place on, unheld ones
+// as zero. A map byte is looked at once, the last one for itself where it has fewer than eight positions.
+fn put_bytes(map: &[u8], buffer: &[u8], end: usize, target: &mut [u8], at: usize)
+    requires { ⌜ (end ≤ longest) × (mapSize end ≤ length (now map)) × (end ≤ length (now buffer)) × (at + end ≤ length (now target)) ⌝ }
+    ensures { λ _. ⌜ now (target .exit) ≡ putIn (now (target .entry)) at (savedBytes end (now (map .entry)) (now (buffer .entry))) ⌝ }
 {
     let mut p = 0;
-    while p < l {
-        let end = byte_end(p, l);
+    while p + 8 <= end {
+        put_eight(map[p / 8], buffer, p, target, at);
+        p += 8;
+    }
+    if p < end {
         put_byte(map[p / 8], buffer, p, end, target, at);
-        p = end;
     }
 }
 

@@ -1,4 +1,4 @@
--- `record::writing::put_byte` meets its contract: all eight bytes are written at once; of fewer the first k.
+-- `record::writing::put_byte` meets its contract: the first k bytes are written.
 -- Assumes nothing.
 use mathlib.Core.Path.{_≡_, refl, sym, ap, _∙_}
 use mathlib.Core.List.{List}
@@ -9,7 +9,7 @@ use Rattle.octets.specs.Values.{valuesFrom}
 use Rattle.octets.specs.Runs.{putIn}
 use Rattle.octets.proofs.RunLaws.{put-nothing}
 use Rattle.record.specs.Inner.{byteSaved}
-use Rattle.record.proofs.PutLaws.{same-long, put-value}
+use Rattle.record.proofs.PutLaws.{put-value}
 use Rattle.record.proofs.writing.put_byte.Statement.{statement}
 use Rattle.record.proofs.writing.put_byte.Tie as tie
 
@@ -29,23 +29,9 @@ Left s k = putIn (s .args .target .now) (s .args .at + s .args .from) (valuesFro
 sub-n : tie.Need-sub-n Inv-loop μ-loop
 sub-n c = omega arith
 
-put-eight-requires : tie.Need-put-eight-requires Inv-loop μ-loop
-put-eight-requires c κs = (omega arith, omega arith)
-
-abbrev S : tie.After-slice-known2 Inv-loop μ-loop → tie.Start Inv-loop μ-loop
-S c = c .before .before .before .before .before .before .before
-
-same-length : tie.Need-same-length Inv-loop μ-loop
-same-length c =
-    let s = S c in
-    same-long (F s) (s .args .target .now) (s .args .at + s .args .from) (s .args .from) 8 _ (omega arith) (c .before .before .put-eight .ensures)
-
-returns : tie.Need-returns Inv-loop μ-loop
-returns c = c .before .before .put-eight .ensures ∙ ap (Left (S c)) (sym (c .before .before .before .before .if1 .taken))
-
 loop-holds : tie.Need-loop-holds Inv-loop μ-loop
 loop-holds c =
-    let s = c .before .before .before in
+    let s = c .before .before in
     (omega arith, sym (put-nothing (s .args .target .now) (s .args .at + s .args .from)), refl)
 
 add-saved-at : tie.Need-add-saved-at Inv-loop μ-loop
@@ -72,19 +58,19 @@ loop-less c = omega arith
 loop-again : tie.Need-loop-again Inv-loop μ-loop
 loop-again c =
     let b = c .before .before in
-    let s = b .before .before .before .before in (
+    let s = b .before .before .before in (
       omega arith,
       put-value (F s) (s .args .target .now) (s .args .at + s .args .from) (s .args .from) (b .loop .k) (b .loop .target) (b .loop .inv .1)
           (c .saved-at .result) (omega arith) (c .saved-at .ensures),
       simp length-set (b .loop .inv .2),
     )
 
-same-length-2 : tie.Need-same-length-2 Inv-loop μ-loop
-same-length-2 c = omega arith
+same-length : tie.Need-same-length Inv-loop μ-loop
+same-length c = omega arith
 
-returns-2 : tie.Need-returns-2 Inv-loop μ-loop
-returns-2 c =
-    let s = c .before .before .before .before .before in
+returns : tie.Need-returns Inv-loop μ-loop
+returns c =
+    let s = c .before .before .before .before in
     let e : c .before .loop .k ≡ s .args .end - s .args .from = omega arith in
     c .before .loop .inv .1 ∙ ap (Left s) e
 
@@ -95,9 +81,6 @@ put-byte-spec =
     Inv-loop
     μ-loop
     sub-n
-    put-eight-requires
-    same-length
-    returns
     loop-holds
     add-saved-at
     saved-at-requires
@@ -107,5 +90,5 @@ put-byte-spec =
     add-k
     loop-less
     loop-again
-    same-length-2
-    returns-2)
+    same-length
+    returns)

@@ -1,87 +1,109 @@
--- `record::writing::put_bytes` meets its contract: the bytes of the map bytes so far are written.
+-- `record::writing::put_bytes` meets its contract: the bytes of the map bytes so far are written, and those of the last one behind them.
 -- Assumes nothing.
-use mathlib.Core.Path.{_≡_, refl, sym, ap, _∙_}
+use mathlib.Core.Path.{_≡_, sym, ap, _∙_}
 use mathlib.Core.Bool.{cond}
-use Prim.Native.Nat.{ℕ, _+_, _-_, _%_, _≤_, _<_}
+use mathlib.Core.List.{List}
+use Prim.Native.Nat.{ℕ, _+_, _-_, _%_, _≤_}
 use native.Mathlib.Omega.{arith}
+use lib.ListN.{length}
 use Rattle.octets.specs.Numbers.{byteAt}
 use Rattle.octets.specs.Values.{valuesFrom}
 use Rattle.octets.specs.Runs.{putIn}
 use Rattle.octets.proofs.RunLaws.{put-nothing}
 use Rattle.positions.specs.Map.{held}
-use Rattle.reception.proofs.Steps.{end-within, end-aligned}
 use Rattle.record.proofs.PutLaws.{same-long, put-run-more, saved-byte}
 use Rattle.record.proofs.writing.put_bytes.Statement.{statement}
 use Rattle.record.proofs.writing.put_bytes.Tie as tie
 
 abbrev Inv-loop : tie.InvT-loop
-Inv-loop map buffer l target₀ at p₀ target p =
-    (p ≤ l) × (p < l → p % 8 ≡ 0)
-    × (target ≡ putIn target₀ at (valuesFrom (λ q. cond (held map q) (byteAt buffer q) 0) 0 p))
+Inv-loop map buffer end target₀ at p₀ target p =
+    (p ≤ end) × (p % 8 ≡ 0) × (target ≡ putIn target₀ at (valuesFrom (λ q. cond (held map q) (byteAt buffer q) 0) 0 p))
 
 abbrev μ-loop : tie.MeasureT-loop
-μ-loop map buffer l target₀ at p₀ target p = l - p
+μ-loop map buffer end target₀ at p₀ target p = end - p
 
 abbrev F : tie.Start Inv-loop μ-loop → ℕ → ℕ
 F s = λ q. cond (held (s .args .map .now) q) (byteAt (s .args .buffer .now) q) 0
 
+abbrev Left : tie.Start Inv-loop μ-loop → ℕ → List ℕ
+Left s n = putIn (s .args .target .now) (s .args .at) (valuesFrom (F s) 0 n)
+
+abbrev S : tie.At-loop Inv-loop μ-loop → tie.Start Inv-loop μ-loop
+S c = c .before .before .before .before
+
+long : (c : tie.At-loop Inv-loop μ-loop) → length (c .loop .target) ≡ length (S c .args .target .now)
+long c = let s = S c in same-long (F s) (s .args .target .now) (s .args .at) 0 (c .loop .p) (c .loop .target) (omega arith) (c .loop .inv .2)
+
 loop-holds : tie.Need-loop-holds Inv-loop μ-loop
-loop-holds c = (omega arith, (λ _. refl), sym (put-nothing (c .before .before .before .args .target .now) (c .before .before .before .args .at)))
+loop-holds c =
+    let s = c .before .before .before in
+    (omega arith, omega arith, sym (put-nothing (s .args .target .now) (s .args .at)))
 
-byte-end-requires : tie.Need-byte-end-requires Inv-loop μ-loop
-byte-end-requires c κs = omega arith
+add-loop : tie.Need-add-loop Inv-loop μ-loop
+add-loop c = omega arith
 
-abbrev L : tie.After-byte-end Inv-loop μ-loop → tie.At-loop Inv-loop μ-loop
-L c = c .before .before
+shared-slice-read-put-eight : tie.Need-shared-slice-read-put-eight Inv-loop μ-loop
+shared-slice-read-put-eight c = omega arith
 
-abbrev S : tie.After-byte-end Inv-loop μ-loop → tie.Start Inv-loop μ-loop
-S c = c .before .before .before .before .before .before
+put-eight-requires : tie.Need-put-eight-requires Inv-loop μ-loop
+put-eight-requires c κs = let e = long (c .before .before .before) in (omega arith, omega (arith, e))
 
-inside : (c : tie.After-byte-end Inv-loop μ-loop)
-    → (L c .loop .p < c .byte-end .result) × (c .byte-end .result ≤ L c .loop .p + 8) × (c .byte-end .result ≤ S c .args .l)
-inside c = end-within (L c .loop .p) (S c .args .l) (c .byte-end .result) (c .byte-end .ensures) (c .before .loop-test .taken)
+add-p : tie.Need-add-p Inv-loop μ-loop
+add-p c = omega arith
 
-aligned : (c : tie.After-byte-end Inv-loop μ-loop) → L c .loop .p % 8 ≡ 0
-aligned c = L c .loop .inv .1 (c .before .loop-test .taken)
+loop-less : tie.Need-loop-less Inv-loop μ-loop
+loop-less c = omega arith
+
+loop-again : tie.Need-loop-again Inv-loop μ-loop
+loop-again c =
+    let d = c .before .before in
+    let l = d .before .before .before .before in
+    let s = S l in
+    let p = l .loop .p in (
+      omega arith,
+      omega arith,
+      put-run-more (F s) (s .args .target .now) (s .args .at) p (l .loop .target) (l .loop .inv .2) 8 _ (omega arith)
+          (d .put-eight .ensures
+          ∙ ap (putIn (l .loop .target) (s .args .at + p))
+          (saved-byte (s .args .map .now) (s .args .buffer .now) p 8 (l .loop .inv .1) (omega arith))),
+    )
 
 shared-slice-read-put-byte : tie.Need-shared-slice-read-put-byte Inv-loop μ-loop
 shared-slice-read-put-byte c = omega arith
 
 put-byte-requires : tie.Need-put-byte-requires Inv-loop μ-loop
-put-byte-requires c κs =
-    let d = c .before .before in
-    let w = inside d in
-    let e = same-long (F (S d)) (S d .args .target .now) (S d .args .at) 0 (L d .loop .p) (L d .loop .target) (omega arith) (L d .loop .inv .2) in
-    (omega (arith, w), omega (arith, w), omega (arith, w), omega (arith, w, e))
+put-byte-requires c κs = let e = long (c .before .before .before .before) in (omega arith, omega arith, omega arith, omega (arith, e))
 
-loop-less : tie.Need-loop-less Inv-loop μ-loop
-loop-less c = let w = inside (c .before .before .before .before .before) in omega (arith, w)
-
-loop-again : tie.Need-loop-again Inv-loop μ-loop
-loop-again c =
-    let d = c .before .before .before .before .before in
-    let w = inside d in
-    let e = d .byte-end .result in
-    let p = L d .loop .p in (
-      omega (arith, w),
-      (λ h. end-aligned p (S d .args .l) e (d .byte-end .ensures) (aligned d) h),
-      put-run-more (F (S d)) (S d .args .target .now) (S d .args .at) p (L d .loop .target) (L d .loop .inv .2) e _ (omega (arith, w)) (omega (arith, w))
-          (c .before .before .put-byte .ensures
-          ∙ ap (putIn (L d .loop .target) (S d .args .at + p))
-          (saved-byte (S d .args .map .now) (S d .args .buffer .now) p e (aligned d) (omega (arith, w)) (omega (arith, w)))),
-    )
+last : (c : tie.After-put-byte Inv-loop μ-loop)
+    → (let s = S (c .before .before .before .before .before) in c .put-byte .last .1 .1 .1 .1 .0 ≡ Left s (s .args .end))
+last c =
+    let l = c .before .before .before .before .before in
+    let s = S l in
+    let p = l .loop .p in
+    let n = s .args .end - p in
+    let e : p + n ≡ s .args .end = omega arith in
+    put-run-more (F s) (s .args .target .now) (s .args .at) p (l .loop .target) (l .loop .inv .2) n (c .put-byte .last .1 .1 .1 .1 .0) (omega arith)
+    (c .put-byte .ensures
+    ∙ ap (putIn (l .loop .target) (s .args .at + p)) (saved-byte (s .args .map .now) (s .args .buffer .now) p n (l .loop .inv .1) (omega arith)))
+    ∙ ap (Left s) e
 
 same-length : tie.Need-same-length Inv-loop μ-loop
 same-length c =
-    let s = c .before .before .before .before .before in
-    same-long (F s) (s .args .target .now) (s .args .at) 0 (c .before .loop .p) (c .before .loop .target) (omega arith) (c .before .loop .inv .2)
+    let d = c .before .before in
+    let s = S (d .before .before .before .before .before) in
+    same-long (F s) (s .args .target .now) (s .args .at) 0 (s .args .end) _ (omega arith) (last d)
 
 returns : tie.Need-returns Inv-loop μ-loop
-returns c =
-    let s = c .before .before .before .before .before in
-    let e : c .before .loop .p ≡ s .args .l = omega arith in
-    c .before .loop .inv .2
-    ∙ ap (λ (n : ℕ). putIn (s .args .target .now) (s .args .at) (valuesFrom (F s) 0 n)) e
+returns c = last (c .before .before)
+
+same-length-2 : tie.Need-same-length-2 Inv-loop μ-loop
+same-length-2 c = long (c .before .before)
+
+returns-2 : tie.Need-returns-2 Inv-loop μ-loop
+returns-2 c =
+    let l = c .before .before in
+    let e : l .loop .p ≡ S l .args .end = omega arith in
+    l .loop .inv .2 ∙ ap (Left (S l)) e
 
 pub put-bytes-spec : {M : Type 1} → statement M
 put-bytes-spec =
@@ -90,10 +112,15 @@ put-bytes-spec =
     Inv-loop
     μ-loop
     loop-holds
-    byte-end-requires
-    shared-slice-read-put-byte
-    put-byte-requires
+    add-loop
+    shared-slice-read-put-eight
+    put-eight-requires
+    add-p
     loop-less
     loop-again
+    shared-slice-read-put-byte
+    put-byte-requires
     same-length
-    returns)
+    returns
+    same-length-2
+    returns-2)
