@@ -39,17 +39,17 @@ pub held-past : (m : List ℕ) (p : ℕ) → length m * 8 ≤ p → held m p ≡
 unfolding held bit
 held-past m p h = let g : length m ≤ p / 8 = omega arith in rw (List·getD-eq-default m 0 g, zero-div)
 
--- an empty byte holds none of its positions, a full one all
+-- an empty byte holds none of its positions, a full one has every bit set and holds all
 pub empty-byte : (m : List ℕ) (p : ℕ) → byteAt m (p / 8) ≡ 0 → held m p ≡ false
 unfolding held bit
 empty-byte m p e = rw (e, zero-div)
 
-full : (k : ℕ) → k < 8 → isSet 255 k ≡ true
+pub full-set : (b k : ℕ) → b ≡ 255 → k < 8 → isSet b k ≡ true
 unfolding bit
-full k h = same-values (λ j. isSet 255 j) (λ j. true) 8 k refl h
+full-set b k e h = ap (λ (x : ℕ). isSet x k) e ∙ same-values (λ j. isSet 255 j) (λ j. true) 8 k refl h
 
 pub full-byte : (m : List ℕ) (p : ℕ) → byteAt m (p / 8) ≡ 255 → held m p ≡ true
-full-byte m p e = held-by m p ∙ ap (λ (b : ℕ). isSet b (p % 8)) e ∙ full (p % 8) (omega arith)
+full-byte m p e = held-by m p ∙ full-set (byteAt m (p / 8)) (p % 8) e (omega arith)
 
 -- how many of the eight positions of a byte are held
 pub byte-count : (m : List ℕ) (i : ℕ) → byteAt m i < 256 → count (held m) (i * 8) 8 ≡ ones (byteAt m i)

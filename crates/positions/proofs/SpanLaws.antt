@@ -1,7 +1,7 @@
 -- Laws of positions one after the other: a question about all of them, told by each.
 -- Assumes nothing.
 use mathlib.Core.Path.{_≡_, refl, sym, ap, ap₂, _∙_}
-use mathlib.Core.Bool.{Bool, true, false, cond, not, _&&_, _||_, true≢false}
+use mathlib.Core.Bool.{Bool, true, false, cond, not, _&&_, _||_, true≢false, and-assoc, and-true}
 use mathlib.Core.Logic.{_⊎_, inl, inr, ⊎-elim}
 use Prim.Native.Nat.{ℕ, zero, suc, _+_, _-_, _≤_, _<_}
 use native.Mathlib.Nat.{zero-add, suc-add, add-suc, add-zero, add-assoc}
@@ -90,6 +90,24 @@ module _ (test : ℕ → Bool) where
   -- one position more
   pub one-more : (p q : ℕ) → ((r : ℕ) → p ≤ r → r < q → test r ≡ true) → test q ≡ true → (r : ℕ) → p ≤ r → r < q + 1 → test r ≡ true
   one-more p q before here r l g = ⊎-elim (λ h. let e : q ≡ r = omega arith in ap test (sym e) ∙ here) (λ h. before r l h) (le-or-lt q r)
+
+  -- no position, and one more behind the others, as a loop meets them
+  pub every-none : (p : ℕ) → every test p 0 ≡ true
+  unfolding every
+  every-none p = refl
+
+  pub every-more : (p n : ℕ) → (every test p n && test (p + n)) ≡ every test p (n + 1)
+  unfolding every
+  every-more p zero = rw (add-zero p) (sym (and-true (test p)))
+  every-more p (suc n) =
+      rw (suc-add n 1, add-suc p n)
+      (and-assoc (test p) (every test (suc p) n) (test (suc (p + n)))
+      ∙ ap (λ (b : Bool). test p && b) (ap (λ (q : ℕ). every test (suc p) n && test q) (sym (suc-add p n)) ∙ every-more (suc p) n))
+
+  -- some more, behind those that pass
+  pub then-pass : (at p end : ℕ) → p ≤ end → every test p (end - p) ≡ true → ((q : ℕ) → at ≤ q → q < p → test q ≡ true)
+      → (q : ℕ) → at ≤ q → q < end → test q ≡ true
+  then-pass at p end h e before q l g = ⊎-elim (λ a. all-at p (end - p) e q a (omega arith)) (λ a. before q l a) (le-or-lt p q)
 
   -- where some of them do not all pass, they do not all pass
   part-by : (b : Bool) (p n a k : ℕ) → every test p n ≡ b → p ≤ a → a + k ≤ p + n → every test a k ≡ false → every test p n ≡ false

@@ -14,10 +14,9 @@ use Rattle.octets.specs.Numbers.{byteAt, AllBytes}
 use Rattle.positions.specs.Spans.{every}
 use Rattle.positions.specs.Map.{isSet, held}
 use Rattle.positions.proofs.BitLaws.{set-none, set-and, set-low}
-use Rattle.positions.proofs.SpanLaws.{every-same, part-fails, all-if}
+use Rattle.positions.proofs.SpanLaws.{every-same, part-fails, all-if, then-pass}
 use Rattle.positions.proofs.MapLaws.{held-in}
 use Rattle.reception.specs.Inner.{bitAgrees, bothAgree, MapRun, BufferRun}
-use Rattle.reception.proofs.EightLaws.{then-pass}
 use Rattle.reception.proofs.MarkLaws.{run-nothing, run-then, run-told, run-byte, fresh-is, later-same}
 use Rattle.reception.proofs.CopyLaws.{copy-nothing, copy-then, copy-told}
 

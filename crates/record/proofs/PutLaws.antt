@@ -22,11 +22,11 @@ use Rattle.octets.proofs.ValueLaws.{value-at, values-long, values-alike}
 use Rattle.octets.proofs.RunLaws.{put-fits, put-length, put-one, put-values}
 use Rattle.positions.specs.Map.{bit, isSet, held, bitsFrom}
 use Rattle.positions.proofs.BitLaws.{bit-lt, bits-ext, and-one, bits-below, bit-from, set-low, set-high}
-use Rattle.positions.proofs.MapLaws.{held-in}
+use Rattle.positions.proofs.MapLaws.{held-in, full-set}
 use Rattle.reception.specs.Held.{heldOf}
 use Rattle.reception.proofs.JoinSteps.{bit-of}
 use Rattle.record.specs.Inner.{byteSaved}
-use Rattle.record.proofs.ReadSteps.{bit-test, full-set}
+use Rattle.record.proofs.ReadSteps.{bit-test}
 
 -- ---- written into a list
 -- writing values leaves the list as long as it was

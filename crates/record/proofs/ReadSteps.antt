@@ -1,11 +1,10 @@
 -- Steps of reading a record: its parts, its spare bits, and its unheld bytes, a map byte at a time.
 -- Assumes nothing.
 use mathlib.Core.Path.{_≡_, refl, sym, ap, _∙_}
-use mathlib.Core.Bool.{Bool, true, false, cond, not, _&&_, _||_, true≢false, and-assoc, and-true}
+use mathlib.Core.Bool.{Bool, true, false, cond, not, _&&_, _||_, true≢false}
 use mathlib.Core.Logic.{⊎-elim}
-use mathlib.Core.List.{List, [], _∷_}
-use Prim.Native.Nat.{ℕ, zero, suc, _+_, _-_, _*_, _/_, _%_, _^_, _≤_, _<_}
-use native.Mathlib.Nat.{suc-add, add-suc, add-zero}
+use mathlib.Core.List.{List, []}
+use Prim.Native.Nat.{ℕ, zero, _+_, _-_, _*_, _/_, _%_, _^_, _≤_, _<_}
 use native.Mathlib.Omega.{arith}
 use lib.Bits.{bitAnd}
 use lib.Dec.{eqb, leb}
@@ -17,7 +16,7 @@ use Rattle.positions.specs.Spans.{every}
 use Rattle.positions.specs.Map.{bit, isSet, held, mapSize}
 use Rattle.positions.proofs.BitLaws.{bit-lt, bits-ext, and-one, set-shr, set-none, set-high}
 use Rattle.positions.proofs.SpanLaws.{all-if, all-at, every-same, part-fails, no-between}
-use Rattle.positions.proofs.MapLaws.{held-in, held-by, full-byte}
+use Rattle.positions.proofs.MapLaws.{held-by, full-set}
 use Rattle.reception.proofs.JoinSteps.{bit-of}
 use Rattle.record.specs.declared.Recorded.{Recorded}
 use Rattle.record.specs.Record.{mapAt, bytesAt, recordLength}
@@ -119,31 +118,11 @@ pub bit-test : (b k : ℕ) → eqb (bitAnd (b / 2 ^ k) 1) 1 ≡ isSet b k
 unfolding bit
 bit-test b k = ap (λ (x : ℕ). eqb x 1) (and-one (b / 2 ^ k))
 
--- no position, and one more behind the others
-pub every-none : (test : ℕ → Bool) (p : ℕ) → every test p 0 ≡ true
-unfolding every
-every-none test p = refl
-
-pub every-more : (test : ℕ → Bool) (p n : ℕ) → (every test p n && test (p + n)) ≡ every test p (n + 1)
-unfolding every
-every-more test p zero = rw (add-zero p) (sym (and-true (test p)))
-every-more test p (suc n) =
-    rw (suc-add n 1, add-suc p n)
-    (and-assoc (test p) (every test (suc p) n) (test (suc (p + n)))
-    ∙ ap (λ (b : Bool). test p && b) (ap (λ (q : ℕ). every test (suc p) n && test q) (sym (suc-add p n)) ∙ every-more test (suc p) n))
-
 -- a position by its bit and its byte
 pub clear-by : (b : ℕ) (d : List ℕ) (from p : ℕ) → (eqb (bitAnd (b / 2 ^ (p - from)) 1) 1 || eqb (byteAt d p) 0) ≡ clearAt b d from p
 clear-by b d from p = ap (λ (w : Bool). w || eqb (byteAt d p) 0) (bit-test b (p - from))
 
--- every bit of a full byte is set, so every position is held
-pub full-set : (b k : ℕ) → b ≡ 255 → k < 8 → isSet b k ≡ true
-full-set b k e h =
-    let i : (0 * 8 + k) / 8 ≡ 0 = omega arith in
-    ap (λ (x : ℕ). isSet x k) e
-    ∙ sym (held-in (255 ∷ []) 0 k h)
-    ∙ full-byte (255 ∷ []) (0 * 8 + k) (ap (byteAt (255 ∷ [])) i)
-
+-- of a full byte every position is held
 pub full-clear : (b : ℕ) (d : List ℕ) (from p : ℕ) → b ≡ 255 → p < from + 8 → clearAt b d from p ≡ true
 full-clear b d from p e h = ap (λ (w : Bool). w || eqb (byteAt d p) 0) (full-set b (p - from) e (omega arith))
 

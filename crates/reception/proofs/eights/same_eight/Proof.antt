@@ -6,7 +6,7 @@ use Prim.Native.Nat.{_+_, _-_, _≤_}
 use native.Mathlib.Omega.{arith}
 use Rattle.positions.specs.Spans.{every}
 use Rattle.reception.specs.Inner.{sameAt}
-use Rattle.reception.proofs.EightLaws.{every-none, every-more}
+use Rattle.positions.proofs.SpanLaws.{every-none, every-more}
 use Rattle.reception.proofs.eights.same_eight.Statement.{statement}
 use Rattle.reception.proofs.eights.same_eight.Tie as tie
 

@@ -7,9 +7,8 @@ use native.Mathlib.Omega.{arith}
 use lib.ListN.{length}
 use borrow.Author.Tests.{not-true, not-false}
 use Rattle.positions.specs.Spans.{every}
-use Rattle.positions.proofs.SpanLaws.{all-if, part-fails, no-between}
+use Rattle.positions.proofs.SpanLaws.{all-if, part-fails, no-between, then-pass}
 use Rattle.reception.specs.Inner.{pieceAgrees}
-use Rattle.reception.proofs.EightLaws.{then-pass}
 use Rattle.reception.proofs.Steps.{rest-agrees, rest-within}
 use Rattle.reception.proofs.pieces.agree.Statement.{statement}
 use Rattle.reception.proofs.pieces.agree.Tie as tie

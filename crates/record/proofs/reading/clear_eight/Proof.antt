@@ -5,9 +5,9 @@ use mathlib.Core.Bool.{Bool, _&&_}
 use Prim.Native.Nat.{ℕ, _-_, _≤_}
 use native.Mathlib.Omega.{arith}
 use Rattle.positions.specs.Spans.{every}
-use Rattle.positions.proofs.SpanLaws.{all-if}
+use Rattle.positions.proofs.SpanLaws.{all-if, every-none, every-more}
 use Rattle.record.specs.Inner.{clearAt}
-use Rattle.record.proofs.ReadSteps.{every-none, every-more, full-clear}
+use Rattle.record.proofs.ReadSteps.{full-clear}
 use Rattle.record.proofs.reading.clear_eight.Statement.{statement}
 use Rattle.record.proofs.reading.clear_eight.Tie as tie
 

@@ -6,7 +6,7 @@ use Prim.Native.Nat.{ℕ, _-_, _≤_}
 use native.Mathlib.Omega.{arith}
 use Rattle.positions.specs.Spans.{every}
 use Rattle.record.specs.Inner.{clearAt}
-use Rattle.record.proofs.ReadSteps.{every-none, every-more}
+use Rattle.positions.proofs.SpanLaws.{every-none, every-more}
 use Rattle.record.proofs.reading.clear_few.Statement.{statement}
 use Rattle.record.proofs.reading.clear_few.Tie as tie
 
