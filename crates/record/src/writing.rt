@@ -137,19 +137,19 @@ fn put_byte(b: u8, buffer: &[u8], from: usize, end: usize, target: &mut [u8], at
     }
 }
 
-// Writes the bytes of a file's positions below `end`, its length, into the target from a place on, unheld ones
-// as zero. A map byte is looked at once, the last one for itself where it has fewer than eight positions.
-fn put_bytes(map: &[u8], buffer: &[u8], end: usize, target: &mut [u8], at: usize)
-    requires { ⌜ (end ≤ longest) × (mapSize end ≤ length (now map)) × (end ≤ length (now buffer)) × (at + end ≤ length (now target)) ⌝ }
-    ensures { λ _. ⌜ now (target .exit) ≡ putIn (now (target .entry)) at (savedBytes end (now (map .entry)) (now (buffer .entry))) ⌝ }
+// Writes the bytes of a file of l bytes into the target from a place on, unheld ones as zero. A map byte is
+// looked at once, the last one for itself where it has fewer than eight positions.
+fn put_bytes(map: &[u8], buffer: &[u8], l: usize, target: &mut [u8], at: usize)
+    requires { ⌜ (l ≤ longest) × (mapSize l ≤ length (now map)) × (l ≤ length (now buffer)) × (at + l ≤ length (now target)) ⌝ }
+    ensures { λ _. ⌜ now (target .exit) ≡ putIn (now (target .entry)) at (savedBytes l (now (map .entry)) (now (buffer .entry))) ⌝ }
 {
     let mut p = 0;
-    while p + 8 <= end {
+    while p + 8 <= l {
         put_eight(map[p / 8], buffer, p, target, at);
         p += 8;
     }
-    if p < end {
-        put_byte(map[p / 8], buffer, p, end, target, at);
+    if p < l {
+        put_byte(map[p / 8], buffer, p, l, target, at);
     }
 }
 

@@ -16,11 +16,11 @@ use Rattle.record.proofs.writing.put_bytes.Statement.{statement}
 use Rattle.record.proofs.writing.put_bytes.Tie as tie
 
 abbrev Inv-loop : tie.InvT-loop
-Inv-loop map buffer end target₀ at p₀ target p =
-    (p ≤ end) × (p % 8 ≡ 0) × (target ≡ putIn target₀ at (valuesFrom (λ q. cond (held map q) (byteAt buffer q) 0) 0 p))
+Inv-loop map buffer l target₀ at p₀ target p =
+    (p ≤ l) × (p % 8 ≡ 0) × (target ≡ putIn target₀ at (valuesFrom (λ q. cond (held map q) (byteAt buffer q) 0) 0 p))
 
 abbrev μ-loop : tie.MeasureT-loop
-μ-loop map buffer end target₀ at p₀ target p = end - p
+μ-loop map buffer l target₀ at p₀ target p = l - p
 
 abbrev F : tie.Start Inv-loop μ-loop → ℕ → ℕ
 F s = λ q. cond (held (s .args .map .now) q) (byteAt (s .args .buffer .now) q) 0
@@ -75,13 +75,13 @@ put-byte-requires : tie.Need-put-byte-requires Inv-loop μ-loop
 put-byte-requires c κs = let e = long (c .before .before .before .before) in (omega arith, omega arith, omega arith, omega (arith, e))
 
 last : (c : tie.After-put-byte Inv-loop μ-loop)
-    → (let s = S (c .before .before .before .before .before) in c .put-byte .last .1 .1 .1 .1 .0 ≡ Left s (s .args .end))
+    → (let s = S (c .before .before .before .before .before) in c .put-byte .last .1 .1 .1 .1 .0 ≡ Left s (s .args .l))
 last c =
     let l = c .before .before .before .before .before in
     let s = S l in
     let p = l .loop .p in
-    let n = s .args .end - p in
-    let e : p + n ≡ s .args .end = omega arith in
+    let n = s .args .l - p in
+    let e : p + n ≡ s .args .l = omega arith in
     put-run-more (F s) (s .args .target .now) (s .args .at) p (l .loop .target) (l .loop .inv .2) n (c .put-byte .last .1 .1 .1 .1 .0) (omega arith)
     (c .put-byte .ensures
     ∙ ap (putIn (l .loop .target) (s .args .at + p)) (saved-byte (s .args .map .now) (s .args .buffer .now) p n (l .loop .inv .1) (omega arith)))
@@ -91,7 +91,7 @@ same-length : tie.Need-same-length Inv-loop μ-loop
 same-length c =
     let d = c .before .before in
     let s = S (d .before .before .before .before .before) in
-    same-long (F s) (s .args .target .now) (s .args .at) 0 (s .args .end) _ (omega arith) (last d)
+    same-long (F s) (s .args .target .now) (s .args .at) 0 (s .args .l) _ (omega arith) (last d)
 
 returns : tie.Need-returns Inv-loop μ-loop
 returns c = last (c .before .before)
@@ -102,7 +102,7 @@ same-length-2 c = long (c .before .before)
 returns-2 : tie.Need-returns-2 Inv-loop μ-loop
 returns-2 c =
     let l = c .before .before in
-    let e : l .loop .p ≡ S l .args .end = omega arith in
+    let e : l .loop .p ≡ S l .args .l = omega arith in
     l .loop .inv .2 ∙ ap (Left (S l)) e
 
 pub put-bytes-spec : {M : Type 1} → statement M
