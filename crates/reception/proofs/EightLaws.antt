@@ -38,8 +38,7 @@ module _ (asked : ℕ) (b : List ℕ) (at : ℕ) (d : List ℕ) (from : ℕ) whe
       (every-same (sameAt b at d) (bitAgrees asked b at d from) from 8 (λ q g h. bit-compared q (full-set asked (q - from) e (omega arith))))
 
 -- .. and all are copied
-pub all-copied : (asked : ℕ) (d b : List ℕ) (from n : ℕ) (b′ : List ℕ) → asked ≡ 255 → n ≡ 8 → BufferRun (λ q. true) d b from 8 b′
-    → BufferRun (λ q. isSet asked (q - from)) d b from n b′
-all-copied asked d b from n b′ e l run =
-    rw l
-    (copy-told (λ q. true) d b from 8 b′ run (λ q. isSet asked (q - from)) (λ q g h. sym (full-set asked (q - from) e (omega arith))))
+pub all-copied : (asked : ℕ) (d b : List ℕ) (p : ℕ) (b′ : List ℕ) → asked ≡ 255 → BufferRun (λ q. true) d b p 8 b′
+    → BufferRun (λ q. isSet asked (q - p)) d b p 8 b′
+all-copied asked d b p b′ e run =
+    copy-told (λ q. true) d b p 8 b′ run (λ q. isSet asked (q - p)) (λ q g h. sym (full-set asked (q - p) e (omega arith)))

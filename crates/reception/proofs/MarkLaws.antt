@@ -4,14 +4,13 @@ use mathlib.Core.Path.{_≡_, refl, sym, ap, ap₂, _∙_}
 use mathlib.Core.Bool.{Bool, true, false, not, _&&_, _||_, or-assoc, or-true, or-false, and-or-distrib-right}
 use mathlib.Core.Logic.{⊎-elim}
 use mathlib.Core.List.{List}
-use Prim.Native.Nat.{ℕ, _+_, _-_, _*_, _/_, _%_, _^_, _≤_, _<_}
-use native.Mathlib.Nat.{add-zero, lt-of-lt-of-le, lt-of-le-of-lt}
+use Prim.Native.Nat.{ℕ, _+_, _-_, _*_, _/_, _%_, _≤_, _<_}
+use native.Mathlib.Nat.{add-zero, lt-of-le-of-lt}
 use native.Mathlib.Decide.{ℕ-discrete}
 use native.Mathlib.Omega.{arith}
 use lib.ListN.{length, set, length-set}
 use lib.Seq.{getD-set-same, getD-set-other}
 use lib.Bits.{bitOr, bitAnd, or-lt, and-le-l}
-use lib.Pow.{pow-mono}
 use lib.Count.{ones}
 use lib.Dec.{eqb}
 use borrow.Author.Tests.{eqb-true}
@@ -19,8 +18,8 @@ use Rattle.reason.proofs.Bools.{le-or-lt}
 use Rattle.octets.specs.Numbers.{byteAt, AllBytes}
 use Rattle.positions.specs.Spans.{within, count}
 use Rattle.positions.specs.Map.{isSet, held, mapOf}
-use Rattle.positions.proofs.BitLaws.{set-or, set-and, set-not, set-high, ones-count}
-use Rattle.positions.proofs.SpanLaws.{in-span, before-span, behind-span, by-span, span-join, span-one, count-zero, count-one, count-split, count-same, count-moved, count-both, count-most}
+use Rattle.positions.proofs.BitLaws.{set-or, set-and, set-not, ones-count}
+use Rattle.positions.proofs.SpanLaws.{in-span, before-span, behind-span, by-span, no-between, span-join, span-one, count-zero, count-one, count-split, count-same, count-moved, count-both, count-most}
 use Rattle.positions.proofs.MapLaws.{held-in, held-by, held-past, held-set, held-other, full-byte, byte-count, map-long, map-bytes, held-map, map-is}
 use Rattle.reception.specs.Inner.{MapRun}
 
@@ -49,6 +48,10 @@ run-nothing m has p n all none = record {
       (λ g. sym (or-false (held m q)) ∙ rw (behind-span p n q g));
   new = sym (count-zero (λ q. has q && not (held m q)) p n none);
 }
+
+-- .. of no position
+pub run-none : (m : List ℕ) (has : ℕ → Bool) (p : ℕ) → AllBytes m → MapRun m has p 0 m 0
+run-none m has p all = run-nothing m has p 0 all (λ q l g. absurd (no-between p q l (omega arith)))
 
 -- ---- two runs one after the other
 apart : (a w v h : Bool) → ((a || w && h) || v && h) ≡ (a || (w || v) && h)
@@ -143,29 +146,21 @@ run-eight m i h all =
     left : (o c d : ℕ) → c ≡ o → c + d ≡ 8 → 8 - o ≡ d
     left o c d e f = omega arith
 
--- ---- one byte of a second map: `theirs` are its lowest k bits
-module _ (m : List ℕ) (i theirs k : ℕ) (h : i < length m) (all : AllBytes m) (few : k ≤ 8) (small : theirs < 2 ^ k) where
-  byte : theirs < 256
-  byte = lt-of-lt-of-le small (pow-mono few)
-
+-- ---- one byte of a second map
+module _ (m : List ℕ) (i theirs : ℕ) (h : i < length m) (all : AllBytes m) (small : theirs < 256) where
   -- where a bit of the new byte stands in the map
   pub fresh-is : (j : ℕ) → j < 8 → isSet (bitAnd theirs (255 - byteAt m i)) j ≡ (isSet theirs j && not (held m (i * 8 + j)))
   fresh-is j l =
       set-and theirs (255 - byteAt m i) j ∙ ap (λ (b : Bool). isSet theirs j && b) (set-not (byteAt m i) j (all i) l ∙ ap not (sym (held-in m i j l)))
 
-  counted : ones (bitAnd theirs (255 - byteAt m i)) ≡ count (λ q. isSet theirs (q - i * 8) && not (held m q)) (i * 8) k
+  counted : ones (bitAnd theirs (255 - byteAt m i)) ≡ count (λ q. isSet theirs (q - i * 8) && not (held m q)) (i * 8) 8
   counted =
-      let e : 8 ≡ k + (8 - k) = omega arith in
-      let test : ℕ → Bool = λ j. isSet theirs j && not (held m (i * 8 + j)) in
-      ones-count 8 (bitAnd theirs (255 - byteAt m i)) (lt-of-le-of-lt (and-le-l theirs (255 - byteAt m i)) byte)
-      ∙ count-same (isSet (bitAnd theirs (255 - byteAt m i))) test 0 8 (λ j _ l. fresh-is j (omega arith))
-      ∙ ap (count test 0) e
-      ∙ count-split test 0 k (8 - k)
-      ∙ ap (λ (n : ℕ). count test 0 k + n) (count-zero test (0 + k) (8 - k) (λ j l _. ap (λ (b : Bool). b && not (held m (i * 8 + j))) (set-high k theirs j small (omega arith))))
-      ∙ add-zero (count test 0 k)
-      ∙ count-same test (λ j. isSet theirs (i * 8 + j - i * 8) && not (held m (i * 8 + j))) 0 k (λ j _ _. ap (λ (x : ℕ). isSet theirs x && not (held m (i * 8 + j))) (omega arith))
-      ∙ sym (count-moved (λ q. isSet theirs (q - i * 8) && not (held m q)) (i * 8) 0 k)
-      ∙ ap (λ (p : ℕ). count (λ q. isSet theirs (q - i * 8) && not (held m q)) p k) (add-zero (i * 8))
+      let test : ℕ → Bool = λ q. isSet theirs (q - i * 8) && not (held m q) in
+      ones-count 8 (bitAnd theirs (255 - byteAt m i)) (lt-of-le-of-lt (and-le-l theirs (255 - byteAt m i)) small)
+      ∙ count-same (isSet (bitAnd theirs (255 - byteAt m i))) (λ j. test (i * 8 + j)) 0 8 (λ j _ l. let e : j ≡ i * 8 + j - i * 8 = omega arith in
+      fresh-is j (omega arith) ∙ ap (λ (x : ℕ). isSet theirs x && not (held m (i * 8 + j))) e)
+      ∙ sym (count-moved test (i * 8) 0 8)
+      ∙ ap (λ (p : ℕ). count test p 8) (add-zero (i * 8))
 
   in-byte : (q : ℕ) → q / 8 ≡ i → held (set m i (bitOr (byteAt m i) theirs)) q ≡ (held m q || isSet theirs (q - i * 8))
   in-byte q e =
@@ -174,24 +169,17 @@ module _ (m : List ℕ) (i theirs k : ℕ) (h : i < length m) (all : AllBytes m)
       ∙ set-or (byteAt m i) theirs (q % 8)
       ∙ ap₂ _||_ (ap (λ (x : ℕ). isSet (byteAt m x) (q % 8)) (sym e) ∙ sym (held-by m q)) (ap (isSet theirs) place)
 
-  beside : (q : ℕ) → (q / 8 ≡ i → ⊥) → within (i * 8) k q ≡ false
-      → held (set m i (bitOr (byteAt m i) theirs)) q ≡ (held m q || within (i * 8) k q && isSet theirs (q - i * 8))
+  beside : (q : ℕ) → (q / 8 ≡ i → ⊥) → within (i * 8) 8 q ≡ false
+      → held (set m i (bitOr (byteAt m i) theirs)) q ≡ (held m q || within (i * 8) 8 q && isSet theirs (q - i * 8))
   beside q d out = rw out (held-other m i (bitOr (byteAt m i) theirs) q d ∙ sym (or-false (held m q)))
 
-  holding : (q : ℕ) → held (set m i (bitOr (byteAt m i) theirs)) q ≡ (held m q || within (i * 8) k q && isSet theirs (q - i * 8))
-  holding q =
-      by-span (i * 8) k q
-      (λ l g. in-byte q (omega arith) ∙ rw (in-span (i * 8) k q l g))
-      (λ g. beside q (low i q g) (before-span (i * 8) k q g))
-      (λ g. ⊎-elim
-      (λ f. beside q (high i q f) (behind-span (i * 8) k q g))
-      (λ f. in-byte q (omega arith) ∙ rw (behind-span (i * 8) k q g, set-high k theirs (q - i * 8) small (omega arith)))
-      (le-or-lt (i * 8 + 8) q))
-
-  pub run-byte : MapRun m (λ q. isSet theirs (q - i * 8)) (i * 8) k (set m i (bitOr (byteAt m i) theirs)) (ones (bitAnd theirs (255 - byteAt m i)))
+  pub run-byte : MapRun m (λ q. isSet theirs (q - i * 8)) (i * 8) 8 (set m i (bitOr (byteAt m i) theirs)) (ones (bitAnd theirs (255 - byteAt m i)))
   run-byte = record {
     long = length-set m i (bitOr (byteAt m i) theirs);
-    bytes = set-bytes m i (bitOr (byteAt m i) theirs) h all (or-lt 8 (byteAt m i) theirs (all i) byte);
-    holds = λ q _. holding q;
+    bytes = set-bytes m i (bitOr (byteAt m i) theirs) h all (or-lt 8 (byteAt m i) theirs (all i) small);
+    holds = λ q _. by-span (i * 8) 8 q
+        (λ l g. in-byte q (inside i q l g) ∙ rw (in-span (i * 8) 8 q l g))
+        (λ g. beside q (low i q g) (before-span (i * 8) 8 q g))
+        (λ g. beside q (high i q g) (behind-span (i * 8) 8 q g));
     new = counted;
   }

@@ -15,9 +15,8 @@ use Rattle.positions.specs.Map.{isSet, held}
 use Rattle.positions.proofs.BitLaws.{set-shr}
 use Rattle.positions.proofs.SpanLaws.{every-same}
 use Rattle.positions.proofs.MapLaws.{held-by}
-use Rattle.reception.specs.Inner.{spanAt, sameAt, pieceAgrees, bitAgrees, MapRun, BufferRun}
+use Rattle.reception.specs.Inner.{spanAt, sameAt, pieceAgrees, bitAgrees, MapRun}
 use Rattle.reception.proofs.MarkLaws.{run-then}
-use Rattle.reception.proofs.CopyLaws.{copy-then}
 
 -- ---- eight where two tests pass, else one
 pub eight : (a b : Bool) → a ≡ true → b ≡ true → _≡_ {A = ℕ} 8 (cond (a && b) 8 1)
@@ -76,13 +75,6 @@ run-next m has at p m′ r k m″ r′ h run next =
     let a : p ≡ at + (p - at) = omega arith in
     let b : p - at + k ≡ p + k - at = omega arith in
     subst (λ (n : ℕ). MapRun m has at n m″ (r + r′)) b (run-then m has at (p - at) m′ r run k m″ r′ (subst (λ (q : ℕ). MapRun m′ has q k m″ r′) a next))
-
-pub copy-next : (new : ℕ → Bool) (from b : List ℕ) (at p : ℕ) (b′ : List ℕ) (k : ℕ) (b″ : List ℕ) → at ≤ p → BufferRun new from b at (p - at) b′
-    → BufferRun new from b′ p k b″ → BufferRun new from b at (p + k - at) b″
-copy-next new from b at p b′ k b″ h run next =
-    let a : p ≡ at + (p - at) = omega arith in
-    let e : p - at + k ≡ p + k - at = omega arith in
-    subst (λ (n : ℕ). BufferRun new from b at n b″) e (copy-then new from b at (p - at) b′ run k b″ (subst (λ (q : ℕ). BufferRun new from b′ q k b″) a next))
 
 -- ---- the end of a byte below n
 pub end-cases : (p n : ℕ) → ((p + 8 ≤ n) × (upTo p n ≡ p + 8)) ⊎ ((n < p + 8) × (upTo p n ≡ n))

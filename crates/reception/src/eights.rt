@@ -129,22 +129,14 @@ fn copy_some(buffer: &mut [u8], bytes: &[u8], asked: u8, p: usize)
     }
 }
 
-// Copies the bytes of those positions from `from` on and below `end` whose bit is set in `asked`.
-pub(crate) fn copy_byte(buffer: &mut [u8], bytes: &[u8], asked: u8, from: usize, end: usize)
-    requires { ⌜ (from ≤ end) × (end ≤ from + 8) × (end ≤ length (now buffer)) × (end ≤ length (now bytes)) ⌝ }
-    ensures { λ _. ⌜ BufferRun (λ q. isSet asked (q - from)) (now (bytes .entry)) (now (buffer .entry)) from (end - from) (now (buffer .exit)) ⌝ }
+// The same, and where every bit is set all eight are copied at once.
+pub(crate) fn copy_whole(buffer: &mut [u8], bytes: &[u8], asked: u8, p: usize)
+    requires { ⌜ (p + 8 ≤ length (now buffer)) × (p + 8 ≤ length (now bytes)) ⌝ }
+    ensures { λ _. ⌜ BufferRun (λ q. isSet asked (q - p)) (now (bytes .entry)) (now (buffer .entry)) p 8 (now (buffer .exit)) ⌝ }
 {
-    if (asked == 255) & (end - from == 8) {
-        copy_eight(buffer, bytes, from);
+    if asked == 255 {
+        copy_eight(buffer, bytes, p);
         return;
     }
-    if end - from == 8 {
-        copy_some(buffer, bytes, asked, from);
-        return;
-    }
-    let mut p = from;
-    while p < end {
-        copy_at(buffer, bytes, asked, from, p);
-        p += 1;
-    }
+    copy_some(buffer, bytes, asked, p);
 }

@@ -3,7 +3,7 @@ use super::bits;
 use super::eights;
 ghost use mathlib.Core.Path.{_≡_};
 ghost use mathlib.Core.Bool.{_&&_, not};
-ghost use Prim.Native.Nat.{_+_, _-_, _*_, _/_, _%_, _^_, _≤_, _<_};
+ghost use Prim.Native.Nat.{_+_, _-_, _*_, _/_, _%_, _≤_, _<_};
 ghost use lib.ListN.{length};
 ghost use Rattle.positions.specs.Spans.{every};
 ghost use Rattle.positions.specs.Map.{held, isSet};
@@ -30,30 +30,12 @@ pub(crate) fn agree(map: &[u8], buffer: &[u8], other: &[u8], bytes: &[u8], n: us
     eights::agree_byte(map[p / 8] & other[p / 8], buffer, 0, bytes, p, n)
 }
 
-// The lowest k bits of a byte.
-fn lowest(b: u8, k: usize) -> u8
-    requires { ⌜ k ≤ 8 ⌝ }
-    ensures { λ r. ⌜ r ≡ b % 2 ^ k ⌝ }
-{
-    if k == 8 {
-        return b;
-    }
-    b & ((1 << k) - 1)
-}
-
-// Copies what only the second reception holds of the positions from `from` on and below `end`, which are
-// of one map byte; `theirs` is that byte of the second's map without other positions. How many they are.
-fn add_byte(
-    map: &mut [u8],
-    buffer: &mut [u8],
-    theirs: u8,
-    bytes: &[u8],
-    from: usize,
-    end: usize,
-) -> u32
-    requires { ⌜ (from % 8 ≡ 0) × (from ≤ end) × (end ≤ from + 8) × (from / 8 < length (now map)) × (end ≤ length (now buffer)) × (end ≤ length (now bytes)) × (theirs < 2 ^ (end - from)) ⌝ }
-    ensures { λ r. ⌜ MapRun (now (map .entry)) (λ q. isSet theirs (q - from)) from (end - from) (now (map .exit)) r ⌝ }
-    ensures { λ r. ⌜ BufferRun (λ q. isSet theirs (q - from) && not (held (now (map .entry)) q)) (now (bytes .entry)) (now (buffer .entry)) from (end - from) (now (buffer .exit)) ⌝ }
+// Copies what only the second reception holds of the eight positions from `from` on, which are those of one
+// map byte; `theirs` is that byte of the second's map. How many they are.
+fn add_byte(map: &mut [u8], buffer: &mut [u8], theirs: u8, bytes: &[u8], from: usize) -> u32
+    requires { ⌜ (from % 8 ≡ 0) × (from / 8 < length (now map)) × (from + 8 ≤ length (now buffer)) × (from + 8 ≤ length (now bytes)) ⌝ }
+    ensures { λ r. ⌜ MapRun (now (map .entry)) (λ q. isSet theirs (q - from)) from 8 (now (map .exit)) r ⌝ }
+    ensures { λ r. ⌜ BufferRun (λ q. isSet theirs (q - from) && not (held (now (map .entry)) q)) (now (bytes .entry)) (now (buffer .entry)) from 8 (now (buffer .exit)) ⌝ }
 {
     let have = map[from / 8];
     let new = theirs & (255 - have);
@@ -61,8 +43,45 @@ fn add_byte(
         return 0;
     }
     map[from / 8] = have | theirs;
-    eights::copy_byte(buffer, bytes, new, from, end);
+    eights::copy_whole(buffer, bytes, new, from);
     bits::count_set(new)
+}
+
+// Copies position p where only the second reception holds it; 1 if so, else 0.
+fn add_one(map: &mut [u8], buffer: &mut [u8], other: &[u8], bytes: &[u8], p: usize) -> u32
+    requires { ⌜ (p / 8 < length (now map)) × (p < length (now buffer)) × (p / 8 < length (now other)) × (p < length (now bytes)) ⌝ }
+    ensures { λ r. ⌜ MapRun (now (map .entry)) (held (now (other .entry))) p 1 (now (map .exit)) r ⌝ }
+    ensures { λ r. ⌜ BufferRun (λ q. held (now (other .entry)) q && not (held (now (map .entry)) q)) (now (bytes .entry)) (now (buffer .entry)) p 1 (now (buffer .exit)) ⌝ }
+{
+    if bits::test(other, p) & !bits::test(map, p) {
+        bits::mark(map, p);
+        buffer[p] = bytes[p];
+        return 1;
+    }
+    0
+}
+
+// Copies each position from `from` on and below n that only the second reception holds; how many they are.
+// There are fewer than eight: one by one they cost little, and the code for whole bytes stays small.
+fn add_rest(
+    map: &mut [u8],
+    buffer: &mut [u8],
+    other: &[u8],
+    bytes: &[u8],
+    from: usize,
+    n: usize,
+) -> u32
+    requires { ⌜ (from ≤ n) × (n ≤ longest) × (n ≤ length (now map) * 8) × (n ≤ length (now buffer)) × (n ≤ length (now other) * 8) × (n ≤ length (now bytes)) ⌝ }
+    ensures { λ r. ⌜ MapRun (now (map .entry)) (held (now (other .entry))) from (n - from) (now (map .exit)) r ⌝ }
+    ensures { λ r. ⌜ BufferRun (λ q. held (now (other .entry)) q && not (held (now (map .entry)) q)) (now (bytes .entry)) (now (buffer .entry)) from (n - from) (now (buffer .exit)) ⌝ }
+{
+    let mut new = 0;
+    let mut p = from;
+    while p < n {
+        new += add_one(map, buffer, other, bytes, p);
+        p += 1;
+    }
+    new
 }
 
 // Copies each position below n that only the second reception holds into the first; how many they are.
@@ -74,12 +93,8 @@ pub(crate) fn add(map: &mut [u8], buffer: &mut [u8], other: &[u8], bytes: &[u8],
     let mut new = 0;
     let mut p = 0;
     while p + 8 <= n {
-        new += add_byte(map, buffer, other[p / 8], bytes, p, p + 8);
+        new += add_byte(map, buffer, other[p / 8], bytes, p);
         p += 8;
     }
-    if p == n {
-        return new;
-    }
-    let theirs = lowest(other[p / 8], n - p);
-    new + add_byte(map, buffer, theirs, bytes, p, n)
+    new + add_rest(map, buffer, other, bytes, p, n)
 }

@@ -1,14 +1,9 @@
 -- `reception::joins::add_byte` meets its contract: what is new of one map byte.
 -- Assumes nothing.
-use mathlib.Core.Path.{sym, subst}
-use Prim.Native.Nat.{ℕ, _-_, _/_}
+use Prim.Native.Nat.{_/_}
 use native.Mathlib.Omega.{arith}
-use lib.Bits.{bitOr}
-use lib.ListN.{set}
 use borrow.Author.Needs.{needs}
-use Rattle.octets.specs.Numbers.{byteAt, AllBytes}
-use Rattle.positions.specs.Map.{isSet}
-use Rattle.reception.specs.Inner.{MapRun}
+use Rattle.octets.specs.Numbers.{AllBytes}
 use Rattle.reception.proofs.JoinSteps.{byte-nothing, byte-not-copied, byte-held, byte-copied}
 use Rattle.reception.proofs.joins.add_byte.Statement.{statement}
 use Rattle.reception.proofs.joins.add_byte.Tie as tie
@@ -25,18 +20,18 @@ K c = c .before .before .before .before .before
 returns : tie.Need-returns
 returns c =
     let s = K c in
-    let x = s .args in (
-      byte-nothing (x .map .now) (x .theirs) (x .from) (x .end) (s .pre .0) (s .pre .1) (s .pre .2) (s .pre .3)
-          (λ i. c .before .slice-known3 .given i .fits) (s .pre .6) (c .if1 .taken),
-      byte-not-copied (x .map .now) (x .theirs) (x .from) (x .end) (s .pre .0) (s .pre .1) (s .pre .2) (s .pre .3)
-          (λ i. c .before .slice-known3 .given i .fits) (s .pre .6) (c .if1 .taken) (x .bytes .now) (x .buffer .now),
+    let x = s .args in
+    let all : AllBytes (x .map .now) = λ i. c .before .slice-known3 .given i .fits in (
+      byte-nothing (x .map .now) (x .theirs) (x .from) (s .pre .0) (s .pre .1) all (s .fits .theirs .fits) (c .if1 .taken),
+      byte-not-copied (x .map .now) (x .theirs) (x .from) (s .pre .0) (s .pre .1) all (s .fits .theirs .fits) (c .if1 .taken) (x .bytes .now)
+          (x .buffer .now),
     )
 
 slice-write-map : tie.Need-slice-write-map
 slice-write-map c = search needs
 
-copy-byte-requires : tie.Need-copy-byte-requires
-copy-byte-requires c κs = search needs
+copy-whole-requires : tie.Need-copy-whole-requires
+copy-whole-requires c κs = search needs
 
 count-set-requires : tie.Need-count-set-requires
 count-set-requires c κs = search needs
@@ -52,12 +47,9 @@ returns-2 c =
     let s = c .before .before .before .before .before .before .before .before .before .before in
     let x = s .args in
     let all : AllBytes (x .map .now) = λ i. c .before .before .before .before .before .before .slice-known3 .given i .fits in (
-      subst
-          (λ (r : ℕ). MapRun (x .map .now) (λ q. isSet (x .theirs) (q - x .from)) (x .from) (x .end - x .from) (set (x .map .now) (x .from / 8) (bitOr (byteAt (x .map .now) (x .from / 8)) (x .theirs))) r)
-          (sym (c .count-set .ensures))
-          (byte-held (x .map .now) (x .theirs) (x .from) (x .end) (s .pre .0) (s .pre .1) (s .pre .2) (s .pre .3) all (s .pre .6)),
-      byte-copied (x .map .now) (x .theirs) (x .from) (x .end) (s .pre .0) (s .pre .1) (s .pre .2) (s .pre .3) all (s .pre .6) (x .bytes .now)
-          (x .buffer .now) _ (c .before .before .before .copy-byte .ensures),
+      byte-held (x .map .now) (x .theirs) (x .from) (s .pre .0) (s .pre .1) all (s .fits .theirs .fits) _ (c .count-set .ensures),
+      byte-copied (x .map .now) (x .theirs) (x .from) (s .pre .0) (s .pre .1) all (s .fits .theirs .fits) (x .bytes .now)
+          (x .buffer .now) _ (c .before .before .before .copy-whole .ensures),
     )
 
 pub add-byte-spec : {M : Type 1} → statement M
@@ -68,7 +60,7 @@ add-byte-spec =
     sub-new
     returns
     slice-write-map
-    copy-byte-requires
+    copy-whole-requires
     count-set-requires
     same-length
     same-length-2

@@ -3,21 +3,17 @@
 use mathlib.Core.Path.{_≡_, subst}
 use mathlib.Core.Bool.{true}
 use mathlib.Core.List.{List}
-use Prim.Native.Nat.{ℕ, _+_, _-_, _≤_, _<_}
+use Prim.Native.Nat.{ℕ, _+_, _-_, _≤_}
 use native.Mathlib.Omega.{arith}
 use Rattle.octets.specs.Numbers.{AllBytes}
-use Rattle.positions.proofs.SpanLaws.{no-between}
 use Rattle.reception.specs.Inner.{spanAt, MapRun}
-use Rattle.reception.proofs.MarkLaws.{run-nothing, run-most}
+use Rattle.reception.proofs.MarkLaws.{run-none, run-most}
 use Rattle.reception.proofs.Steps.{span-fits, run-next}
 use Rattle.reception.proofs.pieces.hold.Statement.{statement}
 use Rattle.reception.proofs.pieces.hold.Tie as tie
 
 none : (m : List ℕ) (at : ℕ) → AllBytes m → MapRun m (λ q. true) at (at - at) m 0
-none m at all = run-nothing m (λ q. true) at (at - at) all (λ q l g. absurd (no-between at q l (nothing at q g)))
-  where
-    nothing : (at q : ℕ) → q < at + (at - at) → q < at
-    nothing at q g = omega arith
+none m at all = let e : at - at ≡ 0 = omega arith in rw e (run-none m (λ q. true) at all)
 
 abbrev Inv-loop : tie.InvT-loop
 Inv-loop map₀ at n end new₀ p₀ map new p = (at ≤ p) × (p ≤ end) × MapRun map₀ (λ q. true) at (p - at) map new
