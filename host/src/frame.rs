@@ -55,6 +55,19 @@ impl<'a> Piece<'a> {
 /// A directory entry, read from a frame, with the values of its file header.
 ///
 /// An entry tells the number and the length of a file before any piece of it is heard.
+///
+/// ```
+/// use thoweldeck::{Entry, Reason, Reception};
+///
+/// // a sample of this package: the directory entry of a made-up file
+/// let frame = include_bytes!(concat!(env!("CARGO_MANIFEST_DIR"), "/samples/survey/entry.frame"));
+/// let entry = Entry::read(frame)?;
+/// assert_eq!((entry.number, entry.header.size), (1201, 2358));
+/// assert_eq!(&entry.header.name, b"SURVEY  ");
+/// let reception = Reception::open(entry.number, entry.header.size)?;
+/// assert_eq!(reception.held(), 0);
+/// # Ok::<(), Reason>(())
+/// ```
 #[derive(Clone, Copy, Debug, PartialEq, Eq)]
 pub struct Entry<'a> {
     /// To whom the frame goes.

@@ -5,14 +5,14 @@ use std::io::{self, Read, Write};
 use std::path::{Path, PathBuf};
 use thoweldeck::Reception;
 
-// No record and no frame, in hexadecimal either, is as long as this: what is longer is refused all the same.
-const MOST: u64 = 1 << 17;
+// More bytes than a record has, or a frame in hexadecimal with white space around every pair.
+const MOST: usize = 1 << 17;
 
-/// The bytes of a file: all of them, or so many of a longer one that it is refused.
+/// The bytes of a file: all of them, or of a longer one so many that it is neither a record nor a frame.
 fn read(path: &Path) -> Result<Vec<u8>, Failure> {
     let mut bytes = Vec::new();
     File::open(path)
-        .and_then(|file| file.take(MOST).read_to_end(&mut bytes))
+        .and_then(|file| file.take(MOST as u64 + 1).read_to_end(&mut bytes))
         .map_err(|error| trouble(path, "cannot be read", &error))?;
     Ok(bytes)
 }
@@ -40,7 +40,8 @@ pub struct Frame {
 /// such digits is read as hexadecimal; no frame is one, since its control byte 03 is none of them.
 pub fn frame(path: &Path) -> Result<Frame, Failure> {
     let bytes = read(path)?;
-    Ok(match from_hexadecimal(&bytes) {
+    let text = if bytes.len() <= MOST { from_hexadecimal(&bytes) } else { None };
+    Ok(match text {
         Some(bytes) => Frame { bytes, hexadecimal: true },
         None => Frame { bytes, hexadecimal: false },
     })

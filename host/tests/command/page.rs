@@ -43,3 +43,11 @@ fn the_page_shows_what_the_command_prints() {
         assert_eq!(printed, output, "docs/HOST.md: $ {line}");
     }
 }
+
+#[test]
+fn the_page_shows_the_example_as_it_is() {
+    let host = Path::new(env!("CARGO_MANIFEST_DIR"));
+    let page = fs::read_to_string(host.join("../docs/HOST.md")).expect("docs/HOST.md");
+    let example = fs::read_to_string(host.join("examples/station.rs")).expect("the example");
+    assert!(page.contains(&format!("```rust\n{example}```\n")), "docs/HOST.md shows host/examples/station.rs");
+}
