@@ -128,8 +128,10 @@ extern "C" {
     fn station_remainder(bytes: *const u8, bytes_size: usize) -> u16;
 }
 
-// Every call below is sound for the same reason: the exported functions ask nothing of their caller but
-// that a pointer and its size are a slice's, which each is here, and they keep no pointer.
+// Every call below is sound for the same reasons. The exported functions ask nothing of their caller but that a pointer
+// and its size are a slice's, which each is here; that what is lent to be changed overlaps with nothing else lent, which
+// Rust's borrows make sure of; and they keep no pointer, do not unwind, and return a bool as 0 or 1. That the
+// declarations are those of the library is compared by `tests/declarations.rs`.
 
 /// Opens a reception: clears ceil(length/8) bytes of the map and length bytes of the buffer. Refuses 7, 12.
 pub fn open(length: u32, map: &mut [u8], buffer: &mut [u8]) -> Result<(), Reason> {

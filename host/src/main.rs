@@ -11,14 +11,19 @@ fn main() {
     let end = command::run(words, &mut text);
     let written = std::io::stdout().write_all(text.as_bytes());
     if let Err(line) = &end {
-        eprintln!("thoweldeck: {line}");
+        complain(&line.to_string());
     }
     match written {
         // a reader that has seen enough, as `head`, is no error
         Err(error) if error.kind() != ErrorKind::BrokenPipe => {
-            eprintln!("thoweldeck: what it says cannot be written: {error}");
+            complain(&format!("what it says cannot be written: {error}"));
             exit(2)
         }
         _ => exit(command::status(&end)),
     }
+}
+
+// A line for the user; where even that cannot be written there is nobody to tell.
+fn complain(line: &str) {
+    let _ = writeln!(std::io::stderr(), "thoweldeck: {line}");
 }

@@ -94,7 +94,7 @@ impl Reason {
             Reason::Protocol => "the protocol is not the one that is read here: 0xBB for a file, 0xBD for the directory",
             Reason::Flags => "the flags are not allowed",
             Reason::Check => "the check bytes are not the remainder of the bytes before them, so the frame was damaged on its way",
-            Reason::Size => "a size is wrong: more than 255 bytes of information, a piece without data, a file's length that is not 1 to 32,768, or a request's block size or count of holes",
+            Reason::Size => "a size is wrong: more than 255 bytes of information, a piece without data, a file's length that is not 1 to 32,768, a request's block size or count of holes, or odd bytes left over in it",
             Reason::Header => "the file header breaks a rule",
             Reason::OtherFile => "it belongs to another file: the number differs, or in a join the length",
             Reason::Beyond => "the piece ends beyond the file, or a hole in the request breaks its rules",

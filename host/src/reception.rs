@@ -163,9 +163,9 @@ pub struct Hole {
 }
 
 impl Hole {
-    /// The first position behind it.
+    /// The first position behind it. (A hole of a file ends by 32,768; one made up may not.)
     pub fn end(self) -> u32 {
-        self.start + self.length
+        self.start.saturating_add(self.length)
     }
 }
 

@@ -1,4 +1,5 @@
 //! `thoweldeck explain FILE`: a frame field by field, its check worked out, and the reason where it is refused.
+use super::faults::{self, Fault};
 use super::fields::{self, Field, Kind};
 use super::words::Words;
 use super::{bytes, files, End, Ended, Failure};
@@ -18,10 +19,12 @@ pub fn run(words: Words, text: &mut String) -> End {
             .ok_or_else(|| Failure::Trouble(format!("`--as {name}` is none of piece, entry and request")))?,
     };
     let how = if frame.hexadecimal { "in hexadecimal" } else { "raw" };
-    let said = said(kind, &frame.bytes);
-    let size = bytes::counted(frame.bytes.len(), "byte");
+    let size = if frame.is_more { "more than ".to_string() } else { String::new() }
+        + &bytes::counted(frame.bytes.len(), "byte");
     let _ = writeln!(text, "{}: {size} {how}, read as {}\n", path.display(), kind.name());
-    table(&fields::of(kind, &frame.bytes), fields::marked(kind, &frame.bytes, said.as_ref().err().copied()), text);
+    let (said, fields) = (said(kind, &frame.bytes), fields::of(kind, &frame.bytes));
+    let reason = said.as_ref().err().copied();
+    table(&fields, reason, reason.map_or(Vec::new(), |reason| faults::of(kind, &frame.bytes, &fields, reason)), text);
     if words.has("--steps") {
         steps(kind, &frame.bytes, text);
     }
@@ -69,7 +72,10 @@ fn said(kind: Kind, frame: &[u8]) -> Result<String, Reason> {
         Kind::Piece => Piece::read(frame).map(|piece| {
             let last = piece.offset as usize + piece.bytes.len() - 1;
             let size = bytes::counted(piece.bytes.len(), "byte");
-            format!("{size} of file {}, positions {} to {last}", piece.number, piece.offset)
+            match piece.bytes.len() {
+                1 => format!("{size} of file {}, position {last}", piece.number),
+                _ => format!("{size} of file {}, positions {} to {last}", piece.number, piece.offset),
+            }
         }),
         Kind::Entry => Entry::read(frame).map(|entry| {
             let name = bytes::characters(&entry.header.name);
@@ -87,15 +93,19 @@ fn said(kind: Kind, frame: &[u8]) -> Result<String, Reason> {
     }
 }
 
-// The fields as a table, with the reason beside those that it is about.
-fn table(fields: &[Field<'_>], marked: Option<(Reason, Vec<&'static str>)>, text: &mut String) {
+// The fields as a table, with each fault beside the field that it is in, or behind them.
+fn table(fields: &[Field<'_>], reason: Option<Reason>, faults: Vec<Fault>, text: &mut String) {
+    let number = reason.map_or(0, Reason::number);
     let _ = writeln!(text, "{:>5}  {:23}  {:12}  meaning", "place", "bytes", "field");
-    for field in fields {
-        let mark = match &marked {
-            Some((reason, names)) if names.contains(&field.name) => format!(" <-- reason {}", reason.number()),
-            _ => String::new(),
+    for (index, field) in fields.iter().enumerate() {
+        let mark = match faults.iter().find(|fault| fault.field == Some(index)) {
+            Some(fault) => format!(" <-- reason {number}: {}", fault.words),
+            None => String::new(),
         };
         rows(field, &mark, text);
+    }
+    for fault in faults.iter().filter(|fault| fault.field.is_none()) {
+        let _ = writeln!(text, "       <-- reason {number}: {}", fault.words);
     }
 }
 

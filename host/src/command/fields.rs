@@ -1,7 +1,7 @@
 //! The fields of a frame in their order: places, bytes and meanings, as far as its bytes go. It shows where things
-//! stand; whether they are right is for the library.
+//! stand; whether a frame is accepted is for the library.
 use super::bytes::{characters, counted, date, number, pairs};
-use thoweldeck::{remainder, Piece, Reason};
+use thoweldeck::remainder;
 
 /// What a frame is read as.
 #[derive(Clone, Copy, Debug, PartialEq, Eq)]
@@ -47,16 +47,18 @@ pub struct Field<'a> {
     pub meaning: String,
     /// Whether the bytes are shown as characters too.
     pub is_text: bool,
+    /// Whether the frame ends inside it.
+    pub is_cut: bool,
 }
 
-// Where the information starts: behind two addresses, control and protocol.
-const INFORMATION: usize = 16;
+/// Where the information starts: behind two addresses, control and protocol.
+pub const INFORMATION: usize = 16;
 
 /// The fields of a frame.
 pub fn of(kind: Kind, frame: &[u8]) -> Vec<Field<'_>> {
     let mut walk = Walk { frame, place: 0, end: frame.len(), fields: Vec::new() };
-    walk.next(7, "destination", address);
-    walk.next(7, "source", address);
+    walk.next(7, "destination", |bytes| address(bytes, 0));
+    walk.next(7, "source", |bytes| address(bytes, 1));
     walk.next(1, "control", |bytes| named(bytes[0], &[(0x03, "a UI frame")]));
     walk.next(1, "protocol", |bytes| named(bytes[0], &[(0xBB, "files"), (0xBD, "the directory")]));
     match kind {
@@ -87,17 +89,17 @@ impl<'a> Walk<'a> {
         if bytes.is_empty() {
             return;
         }
-        let meaning =
-            if bytes.len() < size { format!("cut: {} wanted", counted(size, "byte")) } else { meaning(bytes) };
-        self.fields.push(Field { place: self.place, bytes, name, meaning, is_text: false });
+        let is_cut = bytes.len() < size;
+        let meaning = if is_cut { format!("cut: {} wanted", counted(size, "byte")) } else { meaning(bytes) };
+        self.fields.push(Field { place: self.place, bytes, name, meaning, is_text: false, is_cut });
         self.place += bytes.len();
     }
 
     // Adds all that is left as one field, shown as characters too.
     fn rest(&mut self, name: &'static str, meaning: &str) {
-        let bytes = self.left();
+        let (place, bytes, meaning) = (self.place, self.left(), meaning.to_string());
         if !bytes.is_empty() {
-            self.fields.push(Field { place: self.place, bytes, name, meaning: meaning.to_string(), is_text: true });
+            self.fields.push(Field { place, bytes, name, meaning, is_text: true, is_cut: false });
             self.place = self.end;
         }
     }
@@ -132,10 +134,7 @@ fn piece(walk: &mut Walk<'_>) {
 }
 
 fn entry(walk: &mut Walk<'_>) {
-    walk.next(1, "flags", |bytes| {
-        let whole = if bytes[0] & 0x20 != 0 { "set: the header is whole" } else { "clear: the header is not whole" };
-        format!("bit 5 is {whole}; bit 6 is free")
-    });
+    walk.next(1, "flags", |bytes| entry_flags(bytes[0]));
     walk.next(4, "number", |bytes| format!("file {}", number(bytes)));
     walk.next(4, "offset", |bytes| format!("{}", number(bytes)));
     walk.next(4, "time old", |bytes| date(number(bytes)));
@@ -143,10 +142,27 @@ fn entry(walk: &mut Walk<'_>) {
     header(walk);
 }
 
+// The flags of a directory entry: bit 5 says that the header is whole, bit 6 is free, and the others are 0.
+fn entry_flags(flags: u8) -> String {
+    let other: Vec<String> = [0, 1, 2, 3, 4, 7]
+        .into_iter()
+        .filter(|bit| flags >> bit & 1 == 1)
+        .map(|bit: u32| format!("bit {bit} is set and must be 0"))
+        .collect();
+    let whole = if flags & 0x20 != 0 { "set: the header is whole" } else { "clear: the header is not whole" };
+    if other.is_empty() {
+        format!("bit 5 is {whole}; bit 6 is free")
+    } else {
+        other.join(", ")
+    }
+}
+
 // The items of a file header.
 fn header(walk: &mut Walk<'_>) {
     let sum = sum(walk.left());
-    walk.next(2, "header", |_| "AA 55 starts a file header".to_string());
+    walk.next(2, "header", |bytes| {
+        if bytes == [0xAA, 0x55] { "AA 55 starts a file header" } else { "a file header starts with AA 55" }.to_string()
+    });
     while let [low, high, size, ..] = *walk.left() {
         let id = u16::from_le_bytes([low, high]);
         walk.next(3 + usize::from(size), "item", |bytes| item(id, &bytes[3..], sum));
@@ -154,11 +170,11 @@ fn header(walk: &mut Walk<'_>) {
             break;
         }
     }
-    walk.rest("left over", "behind the header's last item");
+    walk.rest("left over", "not a part of the header");
 }
 
-// The sum of a header's bytes, the two data bytes of its item 0A taken as 0.
-fn sum(header: &[u8]) -> u16 {
+/// The sum of a header's bytes, the two data bytes of its item 0A taken as 0.
+pub fn sum(header: &[u8]) -> u16 {
     let mut sum = header.iter().fold(0u16, |sum, byte| sum.wrapping_add(u16::from(*byte)));
     let mut place = 2;
     while let Some([low, high, size]) = header.get(place..place + 3) {
@@ -172,8 +188,24 @@ fn sum(header: &[u8]) -> u16 {
     sum
 }
 
+/// The length of an item that has a fixed one (01, "File header").
+pub fn fixed_length(id: u16) -> Option<usize> {
+    match id {
+        0x00 => Some(0),
+        0x01 | 0x04 | 0x05 | 0x06 | 0x12 => Some(4),
+        0x02 => Some(8),
+        0x03 => Some(3),
+        0x07 | 0x08 => Some(1),
+        0x09..=0x0B => Some(2),
+        _ => None,
+    }
+}
+
 // What an item means.
 fn item(id: u16, data: &[u8], sum: u16) -> String {
+    if let Some(length) = fixed_length(id).filter(|length| *length != data.len()) {
+        return format!("{id:02X} has {}, and not {}", counted(length, "byte"), data.len());
+    }
     let value = number(&data[..data.len().min(8)]);
     match id {
         0x00 => "the end of the header".to_string(),
@@ -181,14 +213,14 @@ fn item(id: u16, data: &[u8], sum: u16) -> String {
         0x02 => format!("02 name: `{}`", characters(data)),
         0x03 => format!("03 extension: `{}`", characters(data)),
         0x04 => format!("04 the file's length, header and body: {value}"),
-        0x05 => format!("05 made: {}", date(value.min(u64::from(u32::MAX)))),
-        0x06 => format!("06 changed: {}", date(value.min(u64::from(u32::MAX)))),
+        0x05 => format!("05 made: {}", date(value)),
+        0x06 => format!("06 changed: {}", date(value)),
         0x07 => format!("07 upsets: {value}"),
         0x08 => format!("08 type: {value}"),
         0x09 => format!("09 the body's sum: {value:04X}"),
         0x0A => format!("0A the header's sum: {value:04X}; these two taken as 0 it is {sum:04X}"),
         0x0B => format!("0B the body starts at position {value} of the file"),
-        0x12 => format!("12 uploaded: {}", date(value.min(u64::from(u32::MAX)))),
+        0x12 => format!("12 uploaded: {}", date(value)),
         _ => format!("{id:02X} is not known here, and skipped"),
     }
 }
@@ -220,43 +252,20 @@ fn named(byte: u8, allowed: &[(u8, &str)]) -> String {
     }
 }
 
-// The address that seven bytes say, whether or not it is well formed.
-fn address(bytes: &[u8]) -> String {
-    let callsign: Vec<u8> = bytes[..6].iter().map(|byte| byte >> 1).collect();
-    let text = format!("{}-{}", characters(&callsign).trim_end(), bytes[6] >> 1 & 15);
-    format!("{text}: characters shifted left by one bit, SSID byte {:02X}", bytes[6])
-}
-
-/// The reason of a refusal and the names of the fields that it is about.
-pub fn marked(kind: Kind, frame: &[u8], refused: Option<Reason>) -> Option<(Reason, Vec<&'static str>)> {
-    let reason = refused?;
-    let names = match reason {
-        Reason::Address => malformed(frame),
-        Reason::Control => vec!["control"],
-        Reason::Protocol => vec!["protocol"],
-        Reason::Flags => vec!["flags"],
-        Reason::Check => vec!["check"],
-        Reason::NotWhole => vec!["flags", "offset"],
-        Reason::Header => vec!["header"],
-        Reason::Beyond => vec!["hole"],
-        Reason::Size if kind == Kind::Request => vec!["block size"],
-        Reason::Size => vec!["data"],
-        _ => vec![],
-    };
-    Some((reason, names))
-}
-
-// The addresses of a frame that are malformed: the library is asked about each in a frame of nothing else.
-fn malformed(frame: &[u8]) -> Vec<&'static str> {
-    let mut names = Vec::new();
-    for (name, from) in [("destination", 0), ("source", 7)] {
-        let mut probe = *b"\xA2\xA6\xA8\x40\x40\x40\x62\xA2\xA6\xA8\x40\x40\x40\x63\x03\xBB";
-        if let Some(bytes) = frame.get(from..from + 7) {
-            probe[from..from + 7].copy_from_slice(bytes);
-        }
-        if Piece::read(&probe) == Err(Reason::Address) {
-            names.push(name);
-        }
+// The address that seven bytes say, or what is wrong with them; `last` is bit 0 of its SSID byte.
+fn address(bytes: &[u8], last: u8) -> String {
+    let (ssid, callsign) = (bytes[6], bytes[..6].iter().map(|byte| byte >> 1).collect::<Vec<u8>>());
+    let text = format!("{}-{}", characters(&callsign).trim_end(), ssid >> 1 & 15);
+    let role = if last == 0 { "destination" } else { "source" };
+    let faults = [
+        (bytes[..6].iter().any(|byte| byte & 1 == 1), "a character's low bit is set".to_string()),
+        (ssid & 0xE0 != 0x60, format!("bits 7 to 5 of the SSID byte {ssid:02X} are not 011")),
+        (ssid & 1 != last, format!("bit 0 of the SSID byte {ssid:02X} is not {last}, as in a {role}")),
+    ];
+    let wrong: Vec<String> = faults.into_iter().filter(|(holds, _)| *holds).map(|(_, fault)| fault).collect();
+    if wrong.is_empty() {
+        format!("{text}: characters shifted left by one bit, SSID byte {ssid:02X}")
+    } else {
+        format!("{text}: {}", wrong.join(", "))
     }
-    names
 }

@@ -1,6 +1,7 @@
 //! The parts of the command: each takes its words, adds what it has to say to a text, and answers how it ended.
 mod bytes;
 mod explain;
+mod faults;
 mod fields;
 mod files;
 mod help;
@@ -66,19 +67,27 @@ pub fn run(words: Vec<OsString>, text: &mut String) -> End {
         Some(word) => word.to_string_lossy().into_owned(),
     };
     let words: Vec<OsString> = rest.collect();
-    if words.iter().any(|word| word == "--help") {
+    match name.as_str() {
+        "help" | "--help" | "-h" => return help::asked(words, text),
+        "--version" => return help::version(text),
+        _ => (),
+    }
+    let (part, switches, options): (Part, &[&'static str], &[&'static str]) = match name.as_str() {
+        "explain" => (explain::run, &["--steps"], &["--as"]),
+        "take" => (take::run, &[], &["--number", "--length"]),
+        "join" => (join::run, &[], &["-o"]),
+        "holes" => (holes::run, &[], &[]),
+        "request" => (request::run, &[], &["--from", "--to", "-o"]),
+        "save" => (save::run, &[], &["-o"]),
+        "show" => (show::run, &[], &[]),
+        _ => return Err(Failure::Trouble(format!("there is no `{name}`\n\n{}", help::SHORT))),
+    };
+    let words = Words::new(words, switches, options)?;
+    if words.asks_for_help() {
         return help::of(&name, text);
     }
-    match name.as_str() {
-        "explain" => explain::run(Words::new(words, &["--steps"], &["--as"])?, text),
-        "take" => take::run(Words::new(words, &[], &["--number", "--length"])?, text),
-        "join" => join::run(Words::new(words, &[], &["-o"])?, text),
-        "holes" => holes::run(Words::new(words, &[], &[])?, text),
-        "request" => request::run(Words::new(words, &[], &["--from", "--to", "-o"])?, text),
-        "save" => save::run(Words::new(words, &[], &["-o"])?, text),
-        "show" => show::run(Words::new(words, &[], &[])?, text),
-        "help" | "--help" | "-h" => help::asked(words, text),
-        "--version" => help::version(text),
-        _ => Err(Failure::Trouble(format!("there is no `{name}`\n\n{}", help::SHORT))),
-    }
+    part(words, text)
 }
+
+/// A part of the command.
+type Part = fn(Words, &mut String) -> End;

@@ -4,7 +4,7 @@ use super::words::Words;
 use super::{files, End, Ended, Failure};
 use std::fmt::Write;
 use std::path::{Path, PathBuf};
-use thoweldeck::{Entry, Piece, Reason, Reception};
+use thoweldeck::{Entry, Piece, Reason, Reception, Request};
 
 pub fn run(words: Words, text: &mut String) -> End {
     let (path, names) = words.first_and_others("a record", "the frames to take")?;
@@ -14,6 +14,7 @@ pub fn run(words: Words, text: &mut String) -> End {
     };
     let frames =
         names.iter().map(|name| Ok((name.clone(), files::frame(name)?.bytes))).collect::<Result<Vec<_>, _>>()?;
+    let _lock = files::Lock::of(&path)?;
     let is_new = !files::is_there(&path);
     let mut reception = if is_new { opened(&path, wanted, &frames, text)? } else { extended(&path, wanted)? };
     let before = reception.held();
@@ -23,11 +24,18 @@ pub fn run(words: Words, text: &mut String) -> End {
             ended = Ended::Refused;
         }
     }
-    if is_new || reception.held() > before {
-        files::write_whole(&path, &reception.save())?;
+    if is_new {
+        files::write_another(&path, &reception.save()).map_err(not_kept)?;
+    } else if reception.held() > before {
+        files::write_whole(&path, &reception.save()).map_err(not_kept)?;
     }
     let _ = writeln!(text, "{}: {}", path.display(), super::holes::summary(&reception));
     Ok(ended)
+}
+
+// A record that could not be written: what the lines above say was not kept.
+fn not_kept(failure: Failure) -> Failure {
+    Failure::Trouble(format!("{failure}; nothing of the frames above is kept"))
 }
 
 // What the words say about the file.
@@ -57,11 +65,11 @@ fn opened(path: &Path, wanted: Wanted, frames: &[(PathBuf, Vec<u8>)], text: &mut
         .number
         .or_else(|| entries.first().map(|entry| entry.number))
         .or_else(|| first_piece().map(|piece| piece.number))
-        .ok_or_else(|| unknown(path, "number", "a piece of it", "--number"))?;
+        .ok_or_else(|| unknown(path, "number", "a piece of it", "--number", frames, text))?;
     let length = wanted
         .length
         .or_else(|| entries.iter().find(|entry| entry.number == number).map(|entry| entry.header.size))
-        .ok_or_else(|| unknown(path, "length", "its directory entry", "--length"))?;
+        .ok_or_else(|| unknown(path, "length", "its directory entry", "--length", frames, text))?;
     let size = counted(length as usize, "byte");
     let what = format!("{}: a new record of file {number}, {size}", path.display());
     let reception = Reception::open(number, length).map_err(|reason| Failure::Refused(what.clone(), reason))?;
@@ -69,30 +77,76 @@ fn opened(path: &Path, wanted: Wanted, frames: &[(PathBuf, Vec<u8>)], text: &mut
     Ok(reception)
 }
 
-// The line for a new record whose file is not known well enough.
-fn unknown(path: &Path, field: &str, frame: &str, option: &str) -> Failure {
+// The line for a new record whose file is not known well enough, behind one on each frame.
+fn unknown(
+    path: &Path,
+    field: &str,
+    wanted: &str,
+    option: &str,
+    frames: &[(PathBuf, Vec<u8>)],
+    text: &mut String,
+) -> Failure {
+    let mut some_refused = false;
+    for (name, frame) in frames {
+        let line = match (other_than_piece(frame), Piece::read(frame)) {
+            (Some(Ok(line)), _) => line,
+            (None, Ok(piece)) => format!("a piece of file {}, not taken", piece.number),
+            (Some(Err(reason)), _) | (None, Err(reason)) => {
+                some_refused = true;
+                format!("refused, {reason}")
+            }
+        };
+        let _ = writeln!(text, "{}: {line}", name.display());
+    }
     let path = path.display();
-    Failure::Trouble(format!(
-        "{path}: is new, and the file's {field} is not known: give a frame with {frame}, or `{option}`"
-    ))
+    let line =
+        format!("{path}: is new, and the file's {field} is not known: give a frame with {wanted}, or `{option}`");
+    if some_refused {
+        Failure::Stopped(line)
+    } else {
+        Failure::Trouble(line)
+    }
 }
 
 // Takes a frame in and says what happened; whether it was accepted.
 fn take(reception: &mut Reception, name: &Path, frame: &[u8], text: &mut String) -> bool {
-    let (line, accepted) = match Entry::read(frame) {
-        Ok(entry) => (told(&entry), true),
-        Err(_) => match reception.take(frame) {
-            Ok(new) => (taken(frame, new), true),
-            Err(reason) => (format!("refused, {reason}"), false),
-        },
+    let came = match other_than_piece(frame) {
+        Some(came) => came.map(|line| line + &differs(reception, frame)),
+        None => reception.take(frame).map(|new| taken(frame, new)),
+    };
+    let (line, accepted) = match came {
+        Ok(line) => (line, true),
+        Err(reason) => (format!("refused, {reason}"), false),
     };
     let _ = writeln!(text, "{}: {line}", name.display());
     accepted
 }
 
-// What a directory entry says.
-fn told(entry: &Entry<'_>) -> String {
-    format!("directory entry of file {}, {}", entry.number, counted(entry.header.size as usize, "byte"))
+// What a frame says that is no piece: a directory entry, by its protocol, or a request, if it is read as one. There is
+// nothing of it to be taken.
+fn other_than_piece(frame: &[u8]) -> Option<Result<String, Reason>> {
+    if let Ok(request) = Request::read(frame) {
+        return Some(Ok(format!("a request for file {}, and no piece", request.number)));
+    }
+    match Entry::read(frame) {
+        Ok(entry) => {
+            let size = counted(entry.header.size as usize, "byte");
+            Some(Ok(format!("directory entry of file {}, {size}", entry.number)))
+        }
+        // the protocol is the directory's, so what is wrong is wrong with the entry
+        Err(reason) if frame.get(15) == Some(&0xBD) && Piece::read(frame) == Err(Reason::Protocol) => Some(Err(reason)),
+        Err(_) => None,
+    }
+}
+
+// A word on an entry of the record's file that tells another length.
+fn differs(reception: &Reception, frame: &[u8]) -> String {
+    match Entry::read(frame) {
+        Ok(entry) if entry.number == reception.number() && entry.header.size != reception.length() => {
+            format!(", and the record has {}", counted(reception.length() as usize, "byte"))
+        }
+        _ => String::new(),
+    }
 }
 
 // What an accepted piece brought.

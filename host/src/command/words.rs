@@ -10,18 +10,24 @@ pub struct Words {
     alone: Vec<OsString>,
     switches: Vec<&'static str>,
     options: Vec<(&'static str, OsString)>,
+    asks_for_help: bool,
 }
 
 impl Words {
     /// Takes words apart, where these switches are known, and these options, each with a value. Behind `--` every word
     /// stands by itself.
     pub fn new(words: Vec<OsString>, switches: &[&'static str], known: &[&'static str]) -> Result<Words, Failure> {
-        let mut taken = Words { alone: Vec::new(), switches: Vec::new(), options: Vec::new() };
+        let (alone, options) = (Vec::new(), Vec::new());
+        let mut taken = Words { alone, switches: Vec::new(), options, asks_for_help: false };
         let mut rest = words.into_iter();
         while let Some(word) = rest.next() {
             if word == "--" {
                 taken.alone.extend(rest);
                 break;
+            }
+            if word == "--help" || word == "-h" {
+                taken.asks_for_help = true;
+                continue;
             }
             if let Some(switch) = switches.iter().find(|switch| word == **switch) {
                 taken.switches.push(switch);
@@ -43,6 +49,11 @@ impl Words {
         }
         self.options.push((option, value));
         Ok(())
+    }
+
+    /// Whether `--help` is there.
+    pub fn asks_for_help(&self) -> bool {
+        self.asks_for_help
     }
 
     /// Whether a switch is there.

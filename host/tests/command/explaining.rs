@@ -1,6 +1,6 @@
 //! `explain`: each kind of frame, each reason on a planted fault, and frames of anything.
 use super::room::{checked, framed, piece, Room};
-use thoweldeck::{Address, Entry, Piece, Reason, Reception, Request};
+use thoweldeck::{Address, Reason, Reception, Request};
 
 fn entry_of_the_figure(room: &Room) -> Vec<u8> {
     let text = room.read("samples/figures/figure-3.2.hex").expect("a sample");
@@ -70,56 +70,110 @@ fn requests_are_explained() {
     assert_eq!(ran.status, 1);
 }
 
-// A frame for each reason that a frame can be refused for, in the order of the numbers, and what it is read as.
-fn faults(room: &Room) -> Vec<(Reason, &'static str, Vec<u8>)> {
+// The faults that an explained frame is marked with: the name of the field, or none behind the table, and the words.
+fn marks(text: &str, reason: Reason) -> Vec<(String, String)> {
+    let mark = format!("<-- reason {}: ", reason.number());
+    text.lines()
+        .filter_map(|line| line.split_once(&mark))
+        .map(|(row, words)| (row.get(32..44).unwrap_or("").trim().to_string(), words.to_string()))
+        .collect()
+}
+
+// Checks that a frame is refused for a reason, and marked at just these fields with just these words.
+fn explained(room: &Room, reason: Reason, frame: &[u8], wanted: &[(&str, &str)]) {
+    room.write("frame", frame);
+    let ran = room.run(&["explain", "frame"]);
+    assert_eq!(ran.status, 1, "{reason}");
+    assert!(ran.text.ends_with(&format!("\nrefused, {reason}\n")), "{reason}: {}", ran.text);
+    let found = marks(&ran.text, reason);
+    let found: Vec<(&str, &str)> = found.iter().map(|(field, words)| (field.as_str(), words.as_str())).collect();
+    assert_eq!(found, wanted, "{reason}: {}", ran.text);
+    assert_eq!(ran.text.matches("<--").count(), wanted.len(), "no other reason is marked: {}", ran.text);
+}
+
+#[test]
+fn a_refused_piece_is_marked_where_it_is_at_fault() {
+    let room = Room::new();
     let good = piece(7, 0, b"ABC");
     let with = |place: usize, byte: u8| {
         let mut frame = good.clone();
         frame[place] = byte;
         frame
     };
-    let mut not_whole = entry_of_the_figure(room);
-    not_whole.truncate(not_whole.len() - 2);
-    not_whole[16] = 0x00;
-    let mut bad_header = not_whole.clone();
-    bad_header[16] = 0x20;
-    bad_header[110] = 0x30;
     let mut flags = good[16..good.len() - 2].to_vec();
     flags[0] = 0x06;
-    vec![
-        (Reason::Short, "piece", good[..15].to_vec()),
-        (Reason::Address, "piece", with(3, 0x41)),
-        (Reason::Control, "piece", with(14, 0x13)),
-        (Reason::Protocol, "piece", with(15, 0xF0)),
-        (Reason::Flags, "piece", checked(0xBB, &flags)),
-        (Reason::Check, "piece", with(26, 0x00)),
-        (Reason::Size, "piece", piece(7, 0, b"")),
-        (Reason::Header, "entry", checked(0xBD, &bad_header[16..])),
-        (Reason::Beyond, "request", framed(0xBB, b"\x11\x07\0\0\0\xF4\0\0\0\0\0\0")),
-        (Reason::NotWhole, "entry", checked(0xBD, &not_whole[16..])),
-    ]
+    let mut both = with(3, 0x41);
+    both[13] = 0x6C;
+    explained(&room, Reason::Short, &good[..15], &[("", "15 bytes")]);
+    explained(&room, Reason::Short, &good[..20], &[("", "4 bytes of information")]);
+    explained(&room, Reason::Address, &with(3, 0x41), &[("destination", "malformed")]);
+    explained(&room, Reason::Address, &with(13, 0x6C), &[("source", "malformed")]);
+    explained(&room, Reason::Address, &both, &[("destination", "malformed"), ("source", "malformed")]);
+    explained(&room, Reason::Control, &with(14, 0x13), &[("control", "not 03")]);
+    explained(&room, Reason::Protocol, &with(15, 0xF0), &[("protocol", "not the one that is read here")]);
+    explained(&room, Reason::Flags, &checked(0xBB, &flags), &[("flags", "not allowed")]);
+    explained(&room, Reason::Check, &with(26, 0x00), &[("check", "not the remainder")]);
+    explained(&room, Reason::Size, &piece(7, 0, b""), &[("", "the piece has no data")]);
+    explained(&room, Reason::Size, &piece(7, 0, &[1; 245]), &[("", "256 bytes of information, and 255 at most")]);
 }
 
 #[test]
-fn every_reason_is_given_with_its_number_and_its_place() {
+fn a_refused_request_is_marked_where_it_is_at_fault() {
     let room = Room::new();
-    for (reason, kind, frame) in faults(&room) {
-        let refused = match kind {
-            "piece" => Piece::read(&frame).err(),
-            "entry" => Entry::read(&frame).err(),
-            _ => Request::read(&frame).err(),
-        };
-        assert_eq!(refused, Some(reason), "the fault that is planted");
-        room.write("frame", &frame);
-        let ran = room.run(&["explain", "frame"]);
-        assert_eq!(ran.status, 1, "{reason}");
-        assert!(ran.text.ends_with(&format!("\nrefused, {reason}\n")), "{reason}: {}", ran.text);
-        let marks = ran.text.matches(&format!(" <-- reason {}\n", reason.number())).count();
-        // a frame that is too short, or has no data, has no field to mark
-        let wanted = if [Reason::Short, Reason::Size].contains(&reason) { 0 } else { 1 };
-        assert!(marks >= wanted, "{reason}: {}", ran.text);
-        assert_eq!(ran.text.matches("<--").count(), marks, "no other reason is marked: {}", ran.text);
+    let request = |information: &[u8]| framed(0xBB, information);
+    let rules = "breaks the rules of holes";
+    // 4 to 7, then 8 to 9: they touch; an empty one; one behind the longest file
+    let touching = request(b"\x11\x07\0\0\0\xF4\0\x04\0\0\x04\0\x08\0\0\x02\0");
+    explained(&room, Reason::Beyond, &touching, &[("hole", rules)]);
+    let text = room.run(&["explain", "frame"]).text;
+    assert!(text.lines().any(|line| line.starts_with("   28  ") && line.contains("<--")), "the second one: {text}");
+    explained(&room, Reason::Beyond, &request(b"\x11\x07\0\0\0\xF4\0\0\0\0\0\0"), &[("hole", rules)]);
+    explained(&room, Reason::Beyond, &request(b"\x11\x07\0\0\0\xF4\0\0\x80\0\x01\0"), &[("hole", rules)]);
+    explained(&room, Reason::Size, &request(b"\x11\x07\0\0\0\xF5\0\0\0\0\x01\0"), &[("block size", "not 244")]);
+    explained(&room, Reason::Size, &request(b"\x11\x07\0\0\0\xF4\0\0\0\0\x01\0\0"), &[("hole", "odd bytes")]);
+    explained(&room, Reason::Size, &request(b"\x11\x07\0\0\0\xF4\0"), &[("flags", "no hole follows")]);
+    let start = request(b"\x10\x07\0\0\0\xF4\0\0\0\0\x01\0");
+    explained(&room, Reason::Size, &start, &[("hole", "a request for the start has no holes")]);
+    explained(&room, Reason::Size, &request(&[0x11; 256]), &[("", "256 bytes of information, and 255 at most")]);
+}
+
+// The information of figure 3.2 without its check, with some bytes changed.
+fn figure_with(room: &Room, changes: &[(usize, u8)]) -> Vec<u8> {
+    let frame = entry_of_the_figure(room);
+    let mut information = frame[16..frame.len() - 2].to_vec();
+    for (place, byte) in changes {
+        information[place - 16] = *byte;
     }
+    information
+}
+
+#[test]
+fn a_refused_entry_is_marked_where_it_is_at_fault() {
+    let room = Room::new();
+    let entry = |changes: &[(usize, u8)]| checked(0xBD, &figure_with(&room, changes));
+    let whole = figure_with(&room, &[]);
+    explained(&room, Reason::Flags, &entry(&[(16, 0x21)]), &[("flags", "not allowed")]);
+    explained(&room, Reason::NotWhole, &entry(&[(16, 0x00)]), &[("flags", "bit 5 is clear")]);
+    explained(&room, Reason::NotWhole, &entry(&[(21, 0x01)]), &[("offset", "not 0")]);
+    let both = [("flags", "bit 5 is clear"), ("offset", "not 0")];
+    explained(&room, Reason::NotWhole, &entry(&[(16, 0x40), (24, 0x01)]), &both);
+    explained(&room, Reason::Header, &entry(&[(33, 0xAB)]), &[("header", "it does not start with AA 55")]);
+    explained(&room, Reason::Header, &checked(0xBD, &whole[..17]), &[("", "it does not start with AA 55")]);
+    explained(&room, Reason::Header, &entry(&[(89, 0x02)]), &[("item", "a wrong length")]);
+    explained(&room, Reason::Header, &entry(&[(112, 0x01)]), &[("item", "it runs past the end")]);
+    let end = "the item that ends the header is missing";
+    explained(&room, Reason::Header, &checked(0xBD, &whole[..whole.len() - 3]), &[("", end)]);
+    let behind = [&whole[..], &[0]].concat();
+    explained(&room, Reason::Header, &checked(0xBD, &behind), &[("left over", "nothing may follow the header")]);
+    explained(&room, Reason::Header, &entry(&[(66, 0x06)]), &[("item", "there are two of it")]);
+    explained(&room, Reason::Header, &entry(&[(66, 0x30)]), &[("", "item 05 is missing")]);
+    explained(&room, Reason::Header, &entry(&[(38, 0x68)]), &[("item", "not the frame's number")]);
+    explained(&room, Reason::Header, &entry(&[(45, 0x43)]), &[("item", "not the sum")]);
+    // the body one byte earlier, and behind the file, each with the sum made right
+    let early = entry(&[(108, 0x4F), (103, 0x83)]);
+    explained(&room, Reason::Header, &early, &[("item", "inside the header")]);
+    let late = entry(&[(108, 0xE1), (109, 0x06), (103, 0x1B), (104, 0x0D)]);
+    explained(&room, Reason::Header, &late, &[("item", "beyond the file's end")]);
 }
 
 #[test]
@@ -142,6 +196,10 @@ fn anything_is_explained() {
         }
         frame.truncate(next() % (frame.len() + 40));
         frame.extend((0..next() % 3 * 150).map(|place| place as u8 ^ next() as u8));
+        // what has visible characters alone is read as a text
+        if !frame.is_empty() && frame.iter().all(|byte| byte.is_ascii_graphic() || byte.is_ascii_whitespace()) {
+            continue;
+        }
         room.write("frame", &frame);
         for kind in ["piece", "entry", "request"] {
             let ran = room.run(&["explain", "frame", "--as", kind, "--steps"]);

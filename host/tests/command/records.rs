@@ -274,3 +274,71 @@ fn a_longest_file_goes_through() {
     room.write("b.record", &longer);
     assert_eq!(room.run(&["holes", "b.record"]).status, 1);
 }
+
+#[test]
+fn many_at_once_lose_nothing() {
+    let room = Room::new();
+    let mut line = String::new();
+    for index in 0..12 {
+        room.write(&format!("{index}"), &piece(7, index * 3, b"abc"));
+        line.push_str(&format!("thoweldeck take a.record {index} --length 100 & "));
+    }
+    room.shell(&format!("{line} wait"));
+    assert_eq!(room.record("a.record").held(), 36);
+    assert!(room.names().iter().all(|name| !name.starts_with('.')), "{:?}", room.names());
+}
+
+#[test]
+fn a_lock_that_nobody_holds_is_told() {
+    let room = Room::new();
+    room.write("1", &piece(7, 0, b"ABCD"));
+    room.write(".a.record.lock", b"");
+    let ran = room.run(&["take", "a.record", "1", "--length", "20"]);
+    assert_eq!(ran.status, 1);
+    assert!(ran.errors.contains("another run has it; if none does, remove .a.record.lock"), "{ran:?}");
+    assert_eq!(room.read("a.record"), None);
+}
+
+#[test]
+fn a_link_is_followed_and_permissions_are_kept() {
+    let room = Room::new();
+    room.write("1", &piece(7, 0, b"ABCD"));
+    room.write("2", &piece(7, 4, b"EFGH"));
+    let lines = "thoweldeck take a.record 1 --length 20 && chmod 600 a.record && ln -s a.record link.record \
+                 && thoweldeck take link.record 2 && test -L link.record && stat -c %a a.record";
+    let ran = room.shell(lines);
+    assert!(ran.status == 0 && ran.text.ends_with("\n600\n"), "{ran:?}");
+    assert_eq!(room.record("a.record").held(), 8);
+    // C is A by another path
+    let ran = room.run(&["join", "a.record", "a.record", "-o", "./a.record"]);
+    assert_eq!(ran.status, 0, "{ran:?}");
+    assert_eq!(room.names(), ["1", "2", "a.record", "link.record"]);
+}
+
+#[test]
+fn frames_that_are_no_pieces_are_told_as_what_they_are() {
+    let room = Room::new();
+    stations(&room);
+    let before = room.read("a.record");
+    let mut damaged = room.read("samples/survey/entry.frame").expect("a sample");
+    damaged[40] ^= 1;
+    room.write("damaged", &damaged);
+    let (to, from): (Address, Address) = ("UOSAT5-11".parse().unwrap(), "VA3SFL-0".parse().unwrap());
+    room.write("start", &Request::start(to, from, 7));
+    let ran = room.run(&["take", "a.record", "start", "samples/survey/entry.frame"]);
+    assert_eq!(ran.status, 0);
+    assert!(ran.text.starts_with("start: a request for file 7, and no piece\n"), "{ran:?}");
+    let ran = room.run(&["take", "a.record", "damaged"]);
+    assert_eq!(ran.status, 1);
+    assert!(ran.text.starts_with("damaged: refused, reason 6: "), "{ran:?}");
+    // a new record of which too little is known: each frame is told all the same
+    let ran = room.run(&["take", "new.record", "damaged", "samples/survey/first/01.frame"]);
+    assert_eq!((ran.status, ran.text.lines().count()), (1, 2));
+    assert!(ran.text.starts_with("damaged: refused, reason 6: "), "{ran:?}");
+    assert!(ran.text.ends_with("samples/survey/first/01.frame: a piece of file 1201, not taken\n"), "{ran:?}");
+    // an entry that tells another length than the record has
+    let ran = room.run(&["take", "cut.record", "samples/survey/entry.frame", "--length", "100"]);
+    let line = "samples/survey/entry.frame: directory entry of file 1201, 2358 bytes, and the record has 100 bytes\n";
+    assert!(ran.text.contains(line), "{ran:?}");
+    assert_eq!((room.read("a.record"), room.read("new.record")), (before, None));
+}

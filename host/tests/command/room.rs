@@ -35,11 +35,16 @@ impl Room {
     fn program(&self) -> PathBuf {
         let folder = self.folder.with_extension("bin");
         fs::create_dir_all(&folder).expect("a folder for the command");
-        let runner = std::env::var("THOWELDECK_RUNNER").unwrap_or_default();
-        let script = format!("#!/bin/sh\nexec {runner} '{}' \"$@\"\n", env!("CARGO_BIN_EXE_thoweldeck"));
-        fs::write(folder.join("thoweldeck"), script).expect("the command");
-        let ran = Command::new("chmod").arg("+x").arg(folder.join("thoweldeck")).status();
-        assert!(ran.expect("chmod").success());
+        let command = folder.join("thoweldeck");
+        if let Ok(runner) = std::env::var("THOWELDECK_RUNNER") {
+            let script = format!("#!/bin/sh\nexec {runner} '{}' \"$@\"\n", env!("CARGO_BIN_EXE_thoweldeck"));
+            fs::write(&command, script).expect("the command");
+            let ran = Command::new("chmod").arg("+x").arg(&command).status();
+            assert!(ran.expect("chmod").success());
+        } else if !command.exists() {
+            let ran = Command::new("ln").args(["-s", env!("CARGO_BIN_EXE_thoweldeck")]).arg(&command).status();
+            assert!(ran.expect("ln").success());
+        }
         folder
     }
 

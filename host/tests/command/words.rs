@@ -21,6 +21,7 @@ fn words_that_make_no_sense_are_told() {
         (&["holes", "absent.record"], "absent.record: cannot be read"),
         (&["holes", "samples"], "samples: cannot be read"),
         (&["help", "nothing"], "there is no `nothing`"),
+        (&["nothing", "--help"], "there is no `nothing`"),
     ] {
         let ran = room.run(words);
         assert_eq!(ran.status, 2, "{words:?}: {ran:?}");
@@ -52,8 +53,39 @@ fn help_has_every_part_and_every_reason() {
 #[test]
 fn words_behind_two_dashes_are_names() {
     let room = Room::new();
-    room.write("--steps", b"no frame");
-    let ran = room.run(&["explain", "--", "--steps"]);
+    room.write("--help", b"\0no frame");
+    let ran = room.run(&["explain", "--", "--help"]);
     assert_eq!(ran.status, 1);
-    assert!(ran.text.starts_with("--steps: 8 bytes raw"), "{ran:?}");
+    assert!(ran.text.starts_with("--help: 9 bytes raw"), "{ran:?}");
+    // nor is the value of an option one
+    let ran = room.run(&["save", "--help", "-o", "--help"]);
+    assert!(ran.text.starts_with("thoweldeck save RECORD"), "{ran:?}");
+    let ran = room.run(&["save", "-o", "--help", "--", "--help"]);
+    assert!(ran.errors.starts_with("thoweldeck: --help: refused, reason 13: "), "{ran:?}");
+}
+
+#[test]
+fn a_text_that_is_not_hexadecimal_is_told() {
+    let room = Room::new();
+    // the letter O in the place of a zero, as a copy of a figure may have it
+    room.write("figure", b"AC 82 66 A6 O2 98 60\n");
+    for words in [&["explain", "figure"][..], &["take", "a.record", "figure", "--length", "20"]] {
+        let ran = room.run(words);
+        assert_eq!(ran.status, 2, "{ran:?}");
+        assert!(ran.errors.contains("figure: is a text, and `O2` in it is no pair"), "{ran:?}");
+    }
+    assert_eq!(room.names(), ["figure"]);
+}
+
+#[test]
+fn nothing_panics_where_nothing_can_be_written() {
+    let room = Room::new();
+    room.write("empty", b"");
+    for (line, status) in [
+        ("thoweldeck holes empty 2>/dev/full", 1),
+        ("thoweldeck explain samples/survey/entry.frame >/dev/full 2>/dev/full", 2),
+        ("thoweldeck --help | true; thoweldeck holes absent 2>/dev/full", 2),
+    ] {
+        assert_eq!(room.shell(line).status, status, "{line}");
+    }
 }
