@@ -1,49 +1,24 @@
 //! Reading directory entries and their headers: every rule kept and broken, faults, and damaged ones.
+use super::shared::Kind;
 use crate::both::{Both, Part};
 use crate::made::entry::{self, Broken, BROKEN, MANDATORY};
 use crate::random::Random;
 use crate::{damage, faults};
 
+/// Directory entries.
+pub const KIND: Kind<'static> =
+    Kind { made: entry::any, read: |both, frame| both.entry(frame).answer.err(), faults: &faults::ENTRY };
+
 pub fn round(both: &mut Both, random: &mut Random) {
-    every_fault(both, random);
+    KIND.every_fault(both, random);
     match random.below(16) {
-        0 => every_cut(both, random),
-        1 => every_flag(both, random),
+        0 => KIND.every_cut(both, random),
+        1 => KIND.every_flag(both, random),
         2 => every_size(both, random),
-        3 | 4 => every_pair(both, random),
+        3 | 4 => KIND.every_pair(both, random),
         5 | 6 => every_rule(both, random),
         7 => every_header_byte(both, random),
         _ => many(both, random),
-    }
-}
-
-// Each fault alone is refused with its own reason.
-fn every_fault(both: &mut Both, random: &mut Random) {
-    for fault in faults::ENTRY {
-        let mut draft = entry::any(random);
-        faults::plant(random, &mut draft, fault);
-        let frame = draft.bytes();
-        let refused = both.entry(&frame).answer.err();
-        let right = fault.reason().is_none() || refused == fault.reason();
-        both.claim(right, &format!("a frame with the fault {fault:?} has its reason"), &[Part::Bytes("frame", &frame)]);
-    }
-}
-
-fn every_cut(both: &mut Both, random: &mut Random) {
-    let frame = entry::any(random).bytes();
-    for size in 0..=frame.len() {
-        let mut cut = frame[..size].to_vec();
-        both.entry(&cut);
-        damage::repair_check(&mut cut);
-        both.entry(&cut);
-    }
-}
-
-fn every_flag(both: &mut Both, random: &mut Random) {
-    let mut draft = entry::any(random);
-    for flags in 0..=255 {
-        draft.information[0] = flags;
-        both.entry(&draft.bytes());
     }
 }
 
@@ -89,17 +64,6 @@ fn filled_header(random: &mut Random, number: &[u8], size: usize) -> Vec<u8> {
     let place = header.windows(3).position(|bytes| bytes == [0x0A, 0, 2]).expect("item 0A is there") + 3;
     header[place..place + 2].copy_from_slice(&(sum as u16).to_le_bytes());
     header
-}
-
-fn every_pair(both: &mut Both, random: &mut Random) {
-    for first in faults::ENTRY {
-        for second in faults::ENTRY {
-            let mut draft = entry::any(random);
-            faults::plant(random, &mut draft, first);
-            faults::plant(random, &mut draft, second);
-            both.entry(&draft.bytes());
-        }
-    }
 }
 
 // Each rule of the header broken alone, and with another one.

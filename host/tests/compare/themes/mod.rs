@@ -11,6 +11,7 @@ pub mod pieces;
 pub mod receptions;
 pub mod records;
 pub mod requests_read;
+pub mod shared;
 pub mod stations;
 pub mod takes;
 pub mod texts;

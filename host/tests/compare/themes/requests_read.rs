@@ -1,46 +1,27 @@
 //! Reading requests and their holes: right ones, each fault and each pair of faults, and damaged ones.
-use crate::both::{Both, Part};
+use super::shared::Kind;
+use crate::both::Both;
+use crate::faults;
 use crate::made::request;
 use crate::random::Random;
-use crate::{damage, faults};
+
+/// Requests, with their first hole.
+pub const KIND: Kind<'static> = Kind { made: request::any, read: request_and_hole, faults: &faults::REQUEST };
+
+fn request_and_hole(both: &mut Both, frame: &[u8]) -> Option<u8> {
+    both.hole(frame, 0);
+    both.read_request(frame).answer.err()
+}
 
 pub fn round(both: &mut Both, random: &mut Random) {
-    every_fault(both, random);
+    KIND.every_fault(both, random);
     match random.below(16) {
-        0 => every_cut(both, random),
-        1 => every_flag(both, random),
+        0 => KIND.every_cut(both, random),
+        1 => KIND.every_flag(both, random),
         2 => every_size(both, random),
-        3..=5 => every_pair(both, random),
+        3..=5 => KIND.every_pair(both, random),
         6 => every_index(both, random),
         _ => many(both, random),
-    }
-}
-
-// Each fault alone is refused with its own reason.
-fn every_fault(both: &mut Both, random: &mut Random) {
-    for fault in faults::REQUEST {
-        let mut draft = request::any(random);
-        faults::plant(random, &mut draft, fault);
-        let frame = draft.bytes();
-        let refused = both.read_request(&frame).answer.err();
-        let right = fault.reason().is_none() || refused == fault.reason();
-        both.claim(right, &format!("a frame with the fault {fault:?} has its reason"), &[Part::Bytes("frame", &frame)]);
-    }
-}
-
-fn every_cut(both: &mut Both, random: &mut Random) {
-    let frame = request::any(random).bytes();
-    for size in 0..=frame.len() {
-        both.read_request(&frame[..size]);
-        both.hole(&frame[..size], 0);
-    }
-}
-
-fn every_flag(both: &mut Both, random: &mut Random) {
-    let mut draft = request::any(random);
-    for flags in 0..=255 {
-        draft.information[0] = flags;
-        both.read_request(&draft.bytes());
     }
 }
 
@@ -52,17 +33,6 @@ fn every_size(both: &mut Both, random: &mut Random) {
         both.read_request(&frame);
         both.hole(&frame, 48);
         frame.push(random.byte());
-    }
-}
-
-fn every_pair(both: &mut Both, random: &mut Random) {
-    for first in faults::REQUEST {
-        for second in faults::REQUEST {
-            let mut draft = request::any(random);
-            faults::plant(random, &mut draft, first);
-            faults::plant(random, &mut draft, second);
-            both.read_request(&draft.bytes());
-        }
     }
 }
 
@@ -91,17 +61,6 @@ fn many(both: &mut Both, random: &mut Random) {
 
 /// A request that is right, has a fault, or is damaged.
 pub fn one(random: &mut Random) -> Vec<u8> {
-    let mut draft = request::any(random);
-    match random.below(10) {
-        0..=3 => draft.bytes(),
-        4..=6 => {
-            faults::single(random, &mut draft, &faults::REQUEST);
-            draft.bytes()
-        }
-        _ => {
-            let mut frame = draft.bytes();
-            damage::frame(random, &mut frame);
-            frame
-        }
-    }
+    let draft = request::any(random);
+    KIND.disturbed(random, draft)
 }

@@ -61,7 +61,7 @@ pub fn one(random: &mut Random, file: &File) -> Vec<u8> {
         12 | 13 => at_the_end(random, file),
         14..=17 => {
             let draft = piece::of(random, file);
-            pieces::disturbed(random, draft)
+            pieces::KIND.disturbed(random, draft)
         }
         18 => pieces::one(random),
         _ if random.chance(50) => entries::one(random),
