@@ -2,16 +2,18 @@
 #![forbid(unsafe_code)]
 mod command;
 
-use std::io::{ErrorKind, Write};
+use command::Out;
+use std::io::{self, ErrorKind, Write};
 use std::process::exit;
 
 fn main() {
     let words = std::env::args_os().skip(1).collect();
-    let mut text = String::new();
-    let end = command::run(words, &mut text);
-    let written = std::io::stdout().write_all(text.as_bytes());
-    if let Err(line) = &end {
-        complain(&line.to_string());
+    let mut stdout = io::stdout();
+    let mut out = Out::to(&mut stdout);
+    let end = command::run(words, &mut out);
+    let written = out.end();
+    if let Err(failure) = &end {
+        complain(&failure.to_string());
     }
     match written {
         // a reader that has seen enough, as `head`, is no error
@@ -25,5 +27,5 @@ fn main() {
 
 // A line for the user; where even that cannot be written there is nobody to tell.
 fn complain(line: &str) {
-    let _ = writeln!(std::io::stderr(), "thoweldeck: {line}");
+    let _ = writeln!(io::stderr(), "thoweldeck: {line}");
 }

@@ -1,41 +1,54 @@
 //! `thoweldeck explain FILE`: a frame field by field, its check worked out, and the reason where it is refused.
+use super::causes::Cause;
 use super::faults::{self, Fault};
 use super::fields::{self, Field, Kind};
+use super::files::Source;
+use super::input;
+use super::names::escaped;
 use super::words::Words;
-use super::{bytes, files, End, Ended, Failure};
-use std::fmt::Write;
+use super::{bytes, End, Ended, Failure, Out};
 use thoweldeck::{remainder, Asks, Entry, Piece, Reason, Request};
 
 // How many bytes a line shows, and how many lines a field.
 const LINE: usize = 8;
 const LINES: usize = 32;
 
-pub fn run(words: Words, text: &mut String) -> End {
+pub fn run(words: Words, out: &mut Out<'_>) -> End {
     let [path] = words.exactly(["a frame"])?;
-    let frame = files::frame(&path)?;
+    let source = Source::of(&path);
+    let read = input::frames(&source.read()?).map_err(|strange| Failure::Trouble(format!("{source}: {strange}")))?;
     let kind = match words.text("--as") {
-        Err(_) => kind_of(&frame.bytes),
-        Ok(name) => Kind::named(&name)
-            .ok_or_else(|| Failure::Trouble(format!("`--as {name}` is none of piece, entry and request")))?,
+        Err(_) => None,
+        Ok(name) => Some(Kind::named(&name).ok_or_else(|| {
+            Failure::Trouble(format!("`--as {}` is none of piece, entry and request", escaped(&name)))
+        })?),
     };
-    let how = if frame.hexadecimal { "in hexadecimal" } else { "raw" };
-    let size = if frame.is_more { "more than ".to_string() } else { String::new() }
-        + &bytes::counted(frame.bytes.len(), "byte");
-    let _ = writeln!(text, "{}: {size} {how}, read as {}\n", path.display(), kind.name());
-    let (said, fields) = (said(kind, &frame.bytes), fields::of(kind, &frame.bytes));
+    let mut ended = Ended::Well;
+    for frame in &read.frames {
+        let kind = kind.unwrap_or_else(|| kind_of(&frame.bytes));
+        let size = bytes::counted(frame.bytes.len(), "byte");
+        out.line(format!("{source}: {size} {}, read as {}\n", read.form.name(), kind.name()));
+        ended = ended.max(explained(kind, &frame.bytes, words.has("--steps"), out));
+    }
+    Ok(ended)
+}
+
+// A frame field by field, and whether it is accepted.
+fn explained(kind: Kind, frame: &[u8], with_steps: bool, out: &mut Out<'_>) -> Ended {
+    let (said, fields) = (said(kind, frame), fields::of(kind, frame));
     let reason = said.as_ref().err().copied();
-    table(&fields, reason, reason.map_or(Vec::new(), |reason| faults::of(kind, &frame.bytes, &fields, reason)), text);
-    if words.has("--steps") {
-        steps(kind, &frame.bytes, text);
+    table(&fields, reason, reason.map_or(Vec::new(), |reason| faults::of(kind, frame, &fields, reason)), out);
+    if with_steps {
+        steps(kind, frame, out);
     }
     match said {
         Ok(line) => {
-            let _ = writeln!(text, "\naccepted: {line}");
-            Ok(Ended::Well)
+            out.line(format!("\naccepted: {line}"));
+            Ended::Well
         }
         Err(reason) => {
-            let _ = writeln!(text, "\nrefused, {reason}");
-            Ok(Ended::Refused)
+            out.line(format!("\nrefused, {}", Cause::from(reason)));
+            Ended::Partly
         }
     }
 }
@@ -53,16 +66,16 @@ fn kind_of(frame: &[u8]) -> Kind {
 }
 
 // The check byte by byte: the remainder of all information up to each.
-fn steps(kind: Kind, frame: &[u8], text: &mut String) {
+fn steps(kind: Kind, frame: &[u8], out: &mut Out<'_>) {
     let information = match kind {
         Kind::Request => return,
         _ => frame.get(16..frame.len().saturating_sub(2)).unwrap_or(&[]),
     };
-    let _ = writeln!(text, "\nplace  byte  remainder of the information up to here");
+    out.line("\nplace  byte  remainder of the information up to here");
     // an information of more than 255 bytes is refused before its check is looked at
     for (index, byte) in information.iter().enumerate().take(255) {
         let remainder = remainder(&information[..=index]).to_be_bytes();
-        let _ = writeln!(text, "{:5}  {byte:02X}    {}", 16 + index, bytes::pairs(&remainder));
+        out.line(format!("{:5}  {byte:02X}    {}", 16 + index, bytes::pairs(&remainder)));
     }
 }
 
@@ -94,36 +107,36 @@ fn said(kind: Kind, frame: &[u8]) -> Result<String, Reason> {
 }
 
 // The fields as a table, with each fault beside the field that it is in, or behind them.
-fn table(fields: &[Field<'_>], reason: Option<Reason>, faults: Vec<Fault>, text: &mut String) {
+fn table(fields: &[Field<'_>], reason: Option<Reason>, faults: Vec<Fault>, out: &mut Out<'_>) {
     let number = reason.map_or(0, Reason::number);
-    let _ = writeln!(text, "{:>5}  {:23}  {:12}  meaning", "place", "bytes", "field");
+    out.line(format!("{:>5}  {:23}  {:12}  meaning", "place", "bytes", "field"));
     for (index, field) in fields.iter().enumerate() {
         let mark = match faults.iter().find(|fault| fault.field == Some(index)) {
             Some(fault) => format!(" <-- reason {number}: {}", fault.words),
             None => String::new(),
         };
-        rows(field, &mark, text);
+        rows(field, &mark, out);
     }
     for fault in faults.iter().filter(|fault| fault.field.is_none()) {
-        let _ = writeln!(text, "       <-- reason {number}: {}", fault.words);
+        out.line(format!("       <-- reason {number}: {}", fault.words));
     }
 }
 
 // A field in lines of eight bytes, of which the first has its name and its meaning.
-fn rows(field: &Field<'_>, mark: &str, text: &mut String) {
+fn rows(field: &Field<'_>, mark: &str, out: &mut Out<'_>) {
     let mut place = field.place;
     let mut name = field.name.to_string();
     let mut meaning = format!("{}{mark}", field.meaning);
     for line in field.bytes.chunks(LINE).take(LINES) {
         let shown = if field.is_text { format!("|{}| {meaning}", bytes::characters(line)) } else { meaning.clone() };
         let row = format!("{place:5}  {:23}  {name:12}  {shown}", bytes::pairs(line));
-        let _ = writeln!(text, "{}", row.trim_end());
+        out.line(row.trim_end());
         place += line.len();
         name.clear();
         meaning.clear();
     }
     let hidden = field.bytes.len().saturating_sub(LINE * LINES);
     if hidden > 0 {
-        let _ = writeln!(text, "{place:5}  and {hidden} bytes more");
+        out.line(format!("{place:5}  and {hidden} bytes more"));
     }
 }

@@ -1,5 +1,8 @@
 //! Files that the command reads and writes: records, frames, and what is written so that nothing is lost.
+use super::causes::Cause;
+use super::names::shown;
 use super::Failure;
+use std::fmt;
 use std::fs::{self, File, OpenOptions};
 use std::io::{self, ErrorKind, Read, Write};
 use std::path::{Path, PathBuf};
@@ -7,22 +10,59 @@ use std::thread::sleep;
 use std::time::Duration;
 use thoweldeck::Reception;
 
-// More bytes than a record has, or a frame in hexadecimal with white space around every pair.
-const MOST: usize = 1 << 17;
+/// More bytes than a record has, or a text with every frame of a long pass in hexadecimal.
+pub const MOST: usize = 1 << 24;
 
-/// The bytes of a file: all of them, or of a longer one so many that it is neither a record nor a frame.
-fn read(path: &Path) -> Result<Vec<u8>, Failure> {
-    let mut bytes = Vec::new();
-    File::open(path)
-        .and_then(|file| file.take(MOST as u64 + 1).read_to_end(&mut bytes))
-        .map_err(|error| trouble(path, "cannot be read", &error))?;
-    Ok(bytes)
+/// Where something is read from.
+#[derive(Clone, Debug, PartialEq, Eq)]
+pub enum Source {
+    /// A file.
+    File(PathBuf),
+    /// Standard input, which the word `-` names.
+    Standard,
+}
+
+impl Source {
+    /// The source that a word names.
+    pub fn of(word: &Path) -> Source {
+        if word.as_os_str() == "-" {
+            Source::Standard
+        } else {
+            Source::File(word.to_path_buf())
+        }
+    }
+
+    /// All that is there, or of a longer one so many bytes that it is neither a record nor a text of frames.
+    pub fn read(&self) -> Result<Vec<u8>, Failure> {
+        let mut bytes = Vec::new();
+        let most = MOST as u64 + 1;
+        match self {
+            Source::File(path) => File::open(path).and_then(|file| file.take(most).read_to_end(&mut bytes)),
+            Source::Standard => io::stdin().lock().take(most).read_to_end(&mut bytes),
+        }
+        .map_err(|error| Failure::Trouble(format!("{self}: cannot be read: {error}")))?;
+        Ok(bytes)
+    }
+
+    /// The reception in a record. Refuses 13.
+    pub fn record(&self) -> Result<Reception, Failure> {
+        let bytes = self.read()?;
+        Reception::load(&bytes).map_err(|reason| Failure::Refused(self.to_string(), Cause::from(reason)))
+    }
+}
+
+impl fmt::Display for Source {
+    fn fmt(&self, f: &mut fmt::Formatter<'_>) -> fmt::Result {
+        match self {
+            Source::File(path) => f.write_str(&shown(path)),
+            Source::Standard => f.write_str("standard input"),
+        }
+    }
 }
 
 /// The reception in a record's file. Refuses 13.
 pub fn record(path: &Path) -> Result<Reception, Failure> {
-    let bytes = read(path)?;
-    Reception::load(&bytes).map_err(|reason| Failure::Refused(path.display().to_string(), reason))
+    Source::File(path.to_path_buf()).record()
 }
 
 /// Whether something stands at a path.
@@ -33,49 +73,6 @@ pub fn is_there(path: &Path) -> bool {
 /// Whether two paths lead to one file.
 pub fn is_same(a: &Path, b: &Path) -> bool {
     a == b || matches!((a.canonicalize(), b.canonicalize()), (Ok(a), Ok(b)) if a == b)
-}
-
-/// A frame's bytes, and how the file has them.
-pub struct Frame {
-    /// The frame.
-    pub bytes: Vec<u8>,
-    /// Whether the file is a text of hexadecimal digits.
-    pub hexadecimal: bool,
-    /// Whether the file goes on behind these bytes.
-    pub is_more: bool,
-}
-
-/// The frame in a file: raw, or in hexadecimal digits with white space between bytes. A file of visible characters and
-/// white space is read as hexadecimal; no frame is one, since its control byte 03 is none of them.
-pub fn frame(path: &Path) -> Result<Frame, Failure> {
-    let mut bytes = read(path)?;
-    let is_more = bytes.len() > MOST;
-    bytes.truncate(MOST);
-    let is_text = |byte: &u8| byte.is_ascii_graphic() || byte.is_ascii_whitespace();
-    let words = std::str::from_utf8(&bytes).unwrap_or("");
-    if is_more || words.trim().is_empty() || !bytes.iter().all(is_text) {
-        return Ok(Frame { bytes, hexadecimal: false, is_more });
-    }
-    match from_hexadecimal(words) {
-        Ok(bytes) => Ok(Frame { bytes, hexadecimal: true, is_more }),
-        Err(word) => {
-            let path = path.display();
-            Err(Failure::Trouble(format!("{path}: is a text, and `{word}` in it is no pair of hexadecimal digits")))
-        }
-    }
-}
-
-// The bytes that words of hexadecimal digits say, in pairs, or the first word that is none.
-fn from_hexadecimal(words: &str) -> Result<Vec<u8>, String> {
-    let mut bytes = Vec::new();
-    for word in words.split_ascii_whitespace() {
-        let digits: Option<Vec<u8>> = word.chars().map(|digit| Some(digit.to_digit(16)? as u8)).collect();
-        match digits {
-            Some(digits) if digits.len() % 2 == 0 => bytes.extend(digits.chunks(2).map(|pair| pair[0] * 16 + pair[1])),
-            _ => return Err(word.chars().take(20).collect()),
-        }
-    }
-    Ok(bytes)
 }
 
 /// Keeps other runs of the command from a record while one reads it and writes it again: a file beside it, as long as
@@ -95,7 +92,7 @@ impl Lock {
                 Err(error) => return Err(trouble(record, "cannot be written", &error)),
             }
         }
-        let (record, path) = (record.display(), path.display());
+        let (record, path) = (shown(record), shown(&path));
         Err(Failure::Stopped(format!("{record}: another run has it; if none does, remove {path}")))
     }
 }
@@ -120,7 +117,7 @@ pub fn write_whole(path: &Path, bytes: &[u8]) -> Result<(), Failure> {
 
 /// Writes a file that is not there yet: whole or not at all, and over nothing.
 pub fn write_another(path: &Path, bytes: &[u8]) -> Result<(), Failure> {
-    let there = || Failure::Stopped(format!("{}: is there already, and is left as it is", path.display()));
+    let there = || Failure::Stopped(format!("{}: is there already, and is left as it is", shown(path)));
     if is_there(path) {
         return Err(there());
     }
@@ -159,7 +156,7 @@ fn named(new: &Path, path: &Path, step: io::Result<()>) -> Result<(), Failure> {
 
 // The name of a file of our own beside a path. A lock has the name of its file in it, a new file the number of this run.
 fn beside(path: &Path, use_of_it: &str) -> Result<PathBuf, Failure> {
-    let name = path.file_name().ok_or_else(|| Failure::Trouble(format!("{}: is no name of a file", path.display())))?;
+    let name = path.file_name().ok_or_else(|| Failure::Trouble(format!("{}: is no name of a file", shown(path))))?;
     let name: String = match use_of_it {
         "lock" => format!(".{}.lock", name.to_string_lossy().chars().take(60).collect::<String>()),
         _ => format!(".thoweldeck-{}.{use_of_it}", std::process::id()),
@@ -169,5 +166,5 @@ fn beside(path: &Path, use_of_it: &str) -> Result<PathBuf, Failure> {
 
 /// The line for a file that cannot be used.
 pub fn trouble(path: &Path, what: &str, error: &io::Error) -> Failure {
-    Failure::Trouble(format!("{}: {what}: {error}", path.display()))
+    Failure::Trouble(format!("{}: {what}: {error}", shown(path)))
 }

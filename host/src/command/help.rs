@@ -1,5 +1,6 @@
 //! What `--help` says.
-use super::{End, Ended, Failure};
+use super::names::escaped;
+use super::{End, Ended, Failure, Out};
 use std::ffi::OsString;
 use thoweldeck::Reason;
 
@@ -110,40 +111,39 @@ A refusal has one of fifteen reasons, the first that holds in the operation's or
 ";
 
 /// The page on one part of the command, or all of it.
-pub fn of(name: &str, text: &mut String) -> End {
+pub fn of(name: &str, out: &mut Out<'_>) -> End {
     match PARTS.iter().find(|(part, _)| *part == name) {
-        Some((_, page)) => text.push_str(page.trim_end()),
-        None => whole(text),
+        Some((_, page)) => out.line(page.trim_end()),
+        None => whole(out),
     }
-    text.push('\n');
     Ok(Ended::Well)
 }
 
 /// `thoweldeck help`, with the name of a part or without.
-pub fn asked(words: Vec<OsString>, text: &mut String) -> End {
+pub fn asked(words: Vec<OsString>, out: &mut Out<'_>) -> End {
     match words.first().map(|word| word.to_string_lossy().into_owned()) {
-        None => of("", text),
-        Some(name) if PARTS.iter().any(|(part, _)| *part == name) => of(&name, text),
-        Some(name) => Err(Failure::Trouble(format!("there is no `{name}`\n\n{SHORT}"))),
+        None => of("", out),
+        Some(name) if PARTS.iter().any(|(part, _)| *part == name) => of(&name, out),
+        Some(name) => Err(Failure::Trouble(format!("there is no `{}`\n\n{SHORT}", escaped(&name)))),
     }
 }
 
 /// The version.
-pub fn version(text: &mut String) -> End {
-    text.push_str(concat!("thoweldeck ", env!("CARGO_PKG_VERSION"), "\n"));
+pub fn version(out: &mut Out<'_>) -> End {
+    out.line(concat!("thoweldeck ", env!("CARGO_PKG_VERSION")));
     Ok(Ended::Well)
 }
 
-fn whole(text: &mut String) {
-    text.push_str(PAGE);
+fn whole(out: &mut Out<'_>) {
+    out.line(PAGE.trim_end_matches('\n'));
     for (_, page) in PARTS {
-        text.push_str(page);
+        out.line(format!("\n{}", page.trim_end()));
     }
-    text.push_str(END);
+    out.line(format!("\n{}\n", END.trim_end()));
     for reason in Reason::ALL {
         let mut number = format!("{:4}", reason.number());
         for line in lines(reason.sentence(), 94) {
-            text.push_str(&format!("{number:4}  {line}\n"));
+            out.line(format!("{number:4}  {line}"));
             number.clear();
         }
     }

@@ -1,26 +1,27 @@
 //! `thoweldeck holes RECORD`: what is missing, as a list and as a picture.
 use super::bytes::counted;
+use super::files::Source;
 use super::words::Words;
-use super::{files, End, Ended};
-use std::fmt::Write;
+use super::{End, Ended, Out};
 use thoweldeck::{Hole, Reception};
 
 // How many characters a picture has at most.
 const WIDTH: u32 = 64;
 
-pub fn run(words: Words, text: &mut String) -> End {
+pub fn run(words: Words, out: &mut Out<'_>) -> End {
     let [path] = words.exactly(["a record"])?;
-    let reception = files::record(&path)?;
-    let _ = writeln!(text, "{}: {}", path.display(), summary(&reception));
+    let source = Source::of(&path);
+    let reception = source.record()?;
+    out.line(format!("{source}: {}", summary(&reception)));
     let holes: Vec<Hole> = reception.holes().collect();
     if !holes.is_empty() {
-        let _ = writeln!(text, "\n start  length  missing");
+        out.line("\n start  length  missing");
     }
     for hole in &holes {
-        let _ = writeln!(text, "{:6}  {:6}  {}", hole.start, hole.length, positions(*hole));
+        out.line(format!("{:6}  {:6}  {}", hole.start, hole.length, positions(*hole)));
     }
-    let _ = writeln!(text, "\n[{}]", picture(&reception));
-    let _ = writeln!(text, "{}", legend(reception.length()));
+    out.line(format!("\n[{}]", picture(&reception)));
+    out.line(legend(reception.length()));
     Ok(Ended::Well)
 }
 

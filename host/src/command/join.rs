@@ -1,10 +1,11 @@
 //! `thoweldeck join A B -o C`: what two stations received, in one record.
 use super::bytes::counted;
+use super::causes::Cause;
+use super::names::shown;
 use super::words::Words;
-use super::{files, End, Ended, Failure};
-use std::fmt::Write;
+use super::{files, End, Ended, Failure, Out};
 
-pub fn run(words: Words, text: &mut String) -> End {
+pub fn run(words: Words, out: &mut Out<'_>) -> End {
     let [first, second] = words.exactly(["a record A", "a record B"])?;
     let third = words.path("-o")?;
     // the joined record has all that A and B have, so it may take the place of either
@@ -13,8 +14,8 @@ pub fn run(words: Words, text: &mut String) -> End {
     let mut joined = files::record(&first)?;
     let other = files::record(&second)?;
     let new = joined.join(&other).map_err(|reason| {
-        let both = format!("{} joined with {}", first.display(), second.display());
-        Failure::Refused(both, reason)
+        let both = format!("{} joined with {}", shown(&first), shown(&second));
+        Failure::Refused(both, Cause::from(reason))
     })?;
     if over {
         files::write_whole(&third, &joined.save())?;
@@ -22,7 +23,7 @@ pub fn run(words: Words, text: &mut String) -> End {
         files::write_another(&third, &joined.save())?;
     }
     let new = counted(new as usize, "byte");
-    let _ = writeln!(text, "{}: has {new} that {} has not", second.display(), first.display());
-    let _ = writeln!(text, "{}: {}", third.display(), super::holes::summary(&joined));
+    out.line(format!("{}: has {new} that {} has not", shown(&second), shown(&first)));
+    out.line(format!("{}: {}", shown(&third), super::holes::summary(&joined)));
     Ok(Ended::Well)
 }

@@ -1,37 +1,46 @@
-//! The parts of the command: each takes its words, adds what it has to say to a text, and answers how it ended.
+//! The parts of the command: each takes its words, says what it has to say line by line, and answers how it ended.
 mod bytes;
+mod causes;
 mod explain;
 mod faults;
 mod fields;
 mod files;
 mod help;
 mod holes;
+mod input;
 mod join;
+mod names;
+mod out;
 mod request;
 mod save;
 mod show;
 mod take;
 mod words;
 
+pub use out::Out;
+
+use causes::Cause;
+use names::shown;
 use std::ffi::OsString;
 use std::fmt;
-use thoweldeck::Reason;
 use words::Words;
 
 /// How a part of the command ended, where it did what it was asked.
-#[derive(Clone, Copy, Debug, PartialEq, Eq)]
+#[derive(Clone, Copy, Debug, PartialEq, Eq, PartialOrd, Ord)]
 pub enum Ended {
-    /// All of it was accepted.
+    /// All of it was done.
     Well,
-    /// Something was refused, and the text says what.
-    Refused,
+    /// Something was refused, or something that was named could not be read. The lines say what, and the rest was done.
+    Partly,
+    /// A piece of the record's own file does not fit the record.
+    Contradicted,
 }
 
 /// Why a part of the command could not do what it was asked.
 #[derive(Debug)]
 pub enum Failure {
-    /// What was refused, and the reason.
-    Refused(String, Reason),
+    /// What was refused, and why.
+    Refused(String, Cause),
     /// Something that has no number stands in the way of it: there are holes left, a file is there already.
     Stopped(String),
     /// The words make no sense, or a file cannot be read or written.
@@ -41,7 +50,7 @@ pub enum Failure {
 impl fmt::Display for Failure {
     fn fmt(&self, f: &mut fmt::Formatter<'_>) -> fmt::Result {
         match self {
-            Failure::Refused(what, reason) => write!(f, "{what}: refused, {reason}"),
+            Failure::Refused(what, cause) => write!(f, "{what}: refused, {cause}"),
             Failure::Stopped(line) | Failure::Trouble(line) => f.write_str(line),
         }
     }
@@ -50,44 +59,55 @@ impl fmt::Display for Failure {
 /// How a part of the command ended.
 pub type End = Result<Ended, Failure>;
 
-/// The exit status: 0 where all is well, 1 for a refusal, 2 for words or files that cannot be used.
+/// The exit status, as the help's page has it.
 pub fn status(end: &End) -> i32 {
     match end {
         Ok(Ended::Well) => 0,
-        Ok(Ended::Refused) | Err(Failure::Refused(..)) | Err(Failure::Stopped(_)) => 1,
+        Ok(Ended::Partly) | Err(Failure::Refused(..)) | Err(Failure::Stopped(_)) => 1,
         Err(Failure::Trouble(_)) => 2,
+        Ok(Ended::Contradicted) => 3,
     }
 }
 
+/// A part of the command: its name, what runs it, its switches, and its options, each with a value.
+struct Part {
+    name: &'static str,
+    run: fn(Words, &mut Out<'_>) -> End,
+    switches: &'static [&'static str],
+    options: &'static [&'static str],
+}
+
+const PARTS: [Part; 7] = [
+    Part { name: "explain", run: explain::run, switches: &["--steps"], options: &["--as"] },
+    Part { name: "take", run: take::run, switches: &[], options: &["--number", "--length"] },
+    Part { name: "join", run: join::run, switches: &[], options: &["-o"] },
+    Part { name: "holes", run: holes::run, switches: &[], options: &[] },
+    Part { name: "request", run: request::run, switches: &[], options: &["--from", "--to", "-o"] },
+    Part { name: "show", run: show::run, switches: &[], options: &[] },
+    Part { name: "save", run: save::run, switches: &[], options: &["-o"] },
+];
+
 /// Runs the part of the command that the first word names.
-pub fn run(words: Vec<OsString>, text: &mut String) -> End {
+pub fn run(words: Vec<OsString>, out: &mut Out<'_>) -> End {
     let mut rest = words.into_iter();
     let name = match rest.next() {
         None => return Err(Failure::Trouble(format!("what shall be done?\n\n{}", help::SHORT))),
-        Some(word) => word.to_string_lossy().into_owned(),
+        Some(word) => word,
     };
     let words: Vec<OsString> = rest.collect();
-    match name.as_str() {
-        "help" | "--help" | "-h" => return help::asked(words, text),
-        "--version" => return help::version(text),
-        _ => (),
+    if name == "help" || name == "--help" || name == "-h" {
+        return help::asked(words, out);
     }
-    let (part, switches, options): (Part, &[&'static str], &[&'static str]) = match name.as_str() {
-        "explain" => (explain::run, &["--steps"], &["--as"]),
-        "take" => (take::run, &[], &["--number", "--length"]),
-        "join" => (join::run, &[], &["-o"]),
-        "holes" => (holes::run, &[], &[]),
-        "request" => (request::run, &[], &["--from", "--to", "-o"]),
-        "save" => (save::run, &[], &["-o"]),
-        "show" => (show::run, &[], &[]),
-        _ => return Err(Failure::Trouble(format!("there is no `{name}`\n\n{}", help::SHORT))),
-    };
-    let words = Words::new(words, switches, options)?;
+    if name == "--version" || name == "-V" {
+        return help::version(out);
+    }
+    let part = PARTS
+        .iter()
+        .find(|part| name == part.name)
+        .ok_or_else(|| Failure::Trouble(format!("there is no `{}`\n\n{}", shown(&name), help::SHORT)))?;
+    let words = Words::new(words, part.switches, part.options)?;
     if words.asks_for_help() {
-        return help::of(&name, text);
+        return help::of(part.name, out);
     }
-    part(words, text)
+    (part.run)(words, out)
 }
-
-/// A part of the command.
-type Part = fn(Words, &mut String) -> End;

@@ -1,30 +1,28 @@
 //! `thoweldeck show RECORD`: the bytes that are held, and where they are missing.
+use super::files::Source;
 use super::words::Words;
-use super::{bytes, files, End, Ended};
+use super::{bytes, End, Ended, Out};
 use std::fmt::Write;
 use thoweldeck::Reception;
 
 // How many positions a line has.
 const LINE: u32 = 16;
 
-pub fn run(words: Words, text: &mut String) -> End {
+pub fn run(words: Words, out: &mut Out<'_>) -> End {
     let [path] = words.exactly(["a record"])?;
-    let reception = files::record(&path)?;
-    let _ = writeln!(text, "{}: {}\n", path.display(), super::holes::summary(&reception));
+    let source = Source::of(&path);
+    let reception = source.record()?;
+    out.line(format!("{source}: {}\n", super::holes::summary(&reception)));
     let mut from = 0;
     while from < reception.length() {
         let end = missing_lines(&reception, from);
         if end > from {
-            let _ = writeln!(
-                text,
-                "{from:6}  -- {} missing, up to position {}",
-                bytes::counted((end - from) as usize, "byte"),
-                end - 1
-            );
+            let missing = bytes::counted((end - from) as usize, "byte");
+            out.line(format!("{from:6}  -- {missing} missing, up to position {}", end - 1));
             from = end;
         } else {
             let to = reception.length().min(from + LINE);
-            let _ = writeln!(text, "{from:6}  {}", line(&reception, from, to));
+            out.line(format!("{from:6}  {}", line(&reception, from, to)));
             from = to;
         }
     }

@@ -1,27 +1,34 @@
 //! `thoweldeck take RECORD FRAMES…`: frames into a record, which is made where there is none.
 use super::bytes::counted;
+use super::causes::Cause;
+use super::files::Source;
+use super::names::shown;
 use super::words::Words;
-use super::{files, End, Ended, Failure};
-use std::fmt::Write;
+use super::{files, input, End, Ended, Failure, Out};
 use std::path::{Path, PathBuf};
 use thoweldeck::{Entry, Piece, Reason, Reception, Request};
 
-pub fn run(words: Words, text: &mut String) -> End {
+pub fn run(words: Words, out: &mut Out<'_>) -> End {
     let (path, names) = words.first_and_others("a record", "the frames to take")?;
     let wanted = Wanted {
         number: words.said("--number", "the number of a file")?,
         length: words.said("--length", "the length of a file")?,
     };
-    let frames =
-        names.iter().map(|name| Ok((name.clone(), files::frame(name)?.bytes))).collect::<Result<Vec<_>, _>>()?;
+    let mut frames = Vec::new();
+    for name in &names {
+        let source = Source::of(name);
+        let read =
+            input::frames(&source.read()?).map_err(|strange| Failure::Trouble(format!("{source}: {strange}")))?;
+        frames.extend(read.frames.into_iter().map(|heard| (name.clone(), heard.bytes)));
+    }
     let _lock = files::Lock::of(&path)?;
     let is_new = !files::is_there(&path);
-    let mut reception = if is_new { opened(&path, wanted, &frames, text)? } else { extended(&path, wanted)? };
+    let mut reception = if is_new { opened(&path, wanted, &frames, out)? } else { extended(&path, wanted)? };
     let before = reception.held();
     let mut ended = Ended::Well;
     for (name, frame) in &frames {
-        if !take(&mut reception, name, frame, text) {
-            ended = Ended::Refused;
+        if !take(&mut reception, name, frame, out) {
+            ended = Ended::Partly;
         }
     }
     if is_new {
@@ -29,7 +36,7 @@ pub fn run(words: Words, text: &mut String) -> End {
     } else if reception.held() > before {
         files::write_whole(&path, &reception.save()).map_err(not_kept)?;
     }
-    let _ = writeln!(text, "{}: {}", path.display(), super::holes::summary(&reception));
+    out.line(format!("{}: {}", shown(&path), super::holes::summary(&reception)));
     Ok(ended)
 }
 
@@ -50,30 +57,31 @@ fn extended(path: &Path, wanted: Wanted) -> Result<Reception, Failure> {
     let reception = files::record(path)?;
     let (number, length) = (reception.number(), reception.length());
     if wanted.number.unwrap_or(number) != number || wanted.length.unwrap_or(length) != length {
-        let what = format!("{}: file {number}, {}", path.display(), counted(length as usize, "byte"));
-        return Err(Failure::Refused(what, Reason::OtherFile));
+        let what = format!("{}: file {number}, {}", shown(path), counted(length as usize, "byte"));
+        return Err(Failure::Refused(what, Cause::from(Reason::OtherFile)));
     }
     Ok(reception)
 }
 
 // A fresh reception. The file's number is the wanted one, or that of the first directory entry, or that of the first
 // piece; its length is the wanted one, or what an entry of this number says.
-fn opened(path: &Path, wanted: Wanted, frames: &[(PathBuf, Vec<u8>)], text: &mut String) -> Result<Reception, Failure> {
+fn opened(path: &Path, wanted: Wanted, frames: &[(PathBuf, Vec<u8>)], out: &mut Out<'_>) -> Result<Reception, Failure> {
     let entries: Vec<Entry<'_>> = frames.iter().filter_map(|(_, frame)| Entry::read(frame).ok()).collect();
     let first_piece = || frames.iter().find_map(|(_, frame)| Piece::read(frame).ok());
     let number = wanted
         .number
         .or_else(|| entries.first().map(|entry| entry.number))
         .or_else(|| first_piece().map(|piece| piece.number))
-        .ok_or_else(|| unknown(path, "number", "a piece of it", "--number", frames, text))?;
+        .ok_or_else(|| unknown(path, "number", "a piece of it", "--number", frames, out))?;
     let length = wanted
         .length
         .or_else(|| entries.iter().find(|entry| entry.number == number).map(|entry| entry.header.size))
-        .ok_or_else(|| unknown(path, "length", "its directory entry", "--length", frames, text))?;
+        .ok_or_else(|| unknown(path, "length", "its directory entry", "--length", frames, out))?;
     let size = counted(length as usize, "byte");
-    let what = format!("{}: a new record of file {number}, {size}", path.display());
-    let reception = Reception::open(number, length).map_err(|reason| Failure::Refused(what.clone(), reason))?;
-    let _ = writeln!(text, "{what}");
+    let what = format!("{}: a new record of file {number}, {size}", shown(path));
+    let reception =
+        Reception::open(number, length).map_err(|reason| Failure::Refused(what.clone(), Cause::from(reason)))?;
+    out.line(&what);
     Ok(reception)
 }
 
@@ -84,7 +92,7 @@ fn unknown(
     wanted: &str,
     option: &str,
     frames: &[(PathBuf, Vec<u8>)],
-    text: &mut String,
+    out: &mut Out<'_>,
 ) -> Failure {
     let mut some_refused = false;
     for (name, frame) in frames {
@@ -96,9 +104,9 @@ fn unknown(
                 format!("refused, {reason}")
             }
         };
-        let _ = writeln!(text, "{}: {line}", name.display());
+        out.line(format!("{}: {line}", shown(name)));
     }
-    let path = path.display();
+    let path = shown(path);
     let line =
         format!("{path}: is new, and the file's {field} is not known: give a frame with {wanted}, or `{option}`");
     if some_refused {
@@ -109,7 +117,7 @@ fn unknown(
 }
 
 // Takes a frame in and says what happened; whether it was accepted.
-fn take(reception: &mut Reception, name: &Path, frame: &[u8], text: &mut String) -> bool {
+fn take(reception: &mut Reception, name: &Path, frame: &[u8], out: &mut Out<'_>) -> bool {
     let came = match other_than_piece(frame) {
         Some(came) => came.map(|line| line + &differs(reception, frame)),
         None => reception.take(frame).map(|new| taken(frame, new)),
@@ -118,7 +126,7 @@ fn take(reception: &mut Reception, name: &Path, frame: &[u8], text: &mut String)
         Ok(line) => (line, true),
         Err(reason) => (format!("refused, {reason}"), false),
     };
-    let _ = writeln!(text, "{}: {line}", name.display());
+    out.line(format!("{}: {line}", shown(name)));
     accepted
 }
 

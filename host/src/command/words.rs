@@ -1,6 +1,8 @@
 //! The words of a command: what stands by itself, and options with their values.
+use super::names::shown;
 use super::Failure;
 use std::ffi::{OsStr, OsString};
+use std::os::unix::ffi::OsStrExt;
 use std::path::PathBuf;
 use std::str::FromStr;
 
@@ -33,8 +35,9 @@ impl Words {
                 taken.switches.push(switch);
                 continue;
             }
-            match known.iter().find(|option| word == **option) {
-                Some(option) => taken.add(option, rest.next())?,
+            let (name, value) = apart(&word);
+            match known.iter().find(|option| name == **option) {
+                Some(option) => taken.add(option, value.or_else(|| rest.next()))?,
                 None if is_option(&word) => return Err(trouble(format!("there is no option `{}`", shown(&word)))),
                 None => taken.alone.push(word),
             }
@@ -91,7 +94,7 @@ impl Words {
     pub fn said<T: FromStr>(&self, option: &str, what: &str) -> Result<Option<T>, Failure> {
         match self.value(option) {
             None => Ok(None),
-            Some(value) => match shown(value).parse() {
+            Some(value) => match value.to_string_lossy().parse() {
                 Ok(said) => Ok(Some(said)),
                 Err(_) => Err(trouble(format!("`{option} {}` is not {what}", shown(value)))),
             },
@@ -100,7 +103,8 @@ impl Words {
 
     /// The text of an option, which must be there.
     pub fn text(&self, option: &str) -> Result<String, Failure> {
-        self.value(option).map(shown).ok_or_else(|| trouble(format!("`{option}` is wanted")))
+        let text = self.value(option).map(|value| value.to_string_lossy().into_owned());
+        text.ok_or_else(|| trouble(format!("`{option}` is wanted")))
     }
 }
 
@@ -112,14 +116,21 @@ fn are(count: usize) -> &'static str {
     }
 }
 
-// A word that begins as an option does. `-` alone is a word.
-fn is_option(word: &OsStr) -> bool {
-    let text = shown(word);
-    text.starts_with('-') && text.len() > 1
+// The name of an option and the value that stands in the same word, as `--length=20` has them.
+fn apart(word: &OsStr) -> (&OsStr, Option<OsString>) {
+    let bytes = word.as_bytes();
+    match bytes.iter().position(|byte| *byte == b'=') {
+        Some(place) if bytes.starts_with(b"--") => {
+            (OsStr::from_bytes(&bytes[..place]), Some(OsStr::from_bytes(&bytes[place + 1..]).to_os_string()))
+        }
+        _ => (word, None),
+    }
 }
 
-fn shown(word: &OsStr) -> String {
-    word.to_string_lossy().into_owned()
+// A word that begins as an option does. `-` alone is a word.
+fn is_option(word: &OsStr) -> bool {
+    let text = word.to_string_lossy();
+    text.starts_with('-') && text.len() > 1
 }
 
 fn trouble(line: String) -> Failure {

@@ -72,7 +72,7 @@ fn a_text_that_is_not_hexadecimal_is_told() {
     for words in [&["explain", "figure"][..], &["take", "a.record", "figure", "--length", "20"]] {
         let ran = room.run(words);
         assert_eq!(ran.status, 2, "{ran:?}");
-        assert!(ran.errors.contains("figure: is a text, and `O2` in it is no pair"), "{ran:?}");
+        assert!(ran.errors.contains("figure: is a text, and `O2` in line 1 is no pair"), "{ran:?}");
     }
     assert_eq!(room.names(), ["figure"]);
 }
