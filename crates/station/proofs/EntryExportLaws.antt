@@ -1,4 +1,4 @@
--- Laws of what the boundary tells of an entry and of its file header: all fields together, by the numbers worked out apart.
+-- Laws of what the boundary tells of an entry and of a file header: all fields together, by the numbers worked out apart.
 -- Assumes nothing.
 use mathlib.Core.Path.{_≡_}
 use mathlib.Core.List.{List}
@@ -10,7 +10,8 @@ use Rattle.header.specs.declared.Header.{Header}
 use Rattle.frame.specs.declared.Entry.{Entry}
 use Rattle.frame.specs.Entry.{beforeHeader, headerPart}
 use Rattle.station.specs.AddressNumber.{addressNumber}
-use Rattle.station.specs.EntryExports.{entryNumbers, nameNumber, extensionNumber, uploadedOf, uploadOf, headerNumbers}
+use Rattle.station.specs.EntryExports.{entryNumbers, nameNumber, extensionNumber, uploadedOf, uploadOf, HeaderNumbers, headerNumbers}
+use Rattle.station.specs.HeaderExports.{fileHeaderNumbers}
 
 -- the fields of an entry, with its addresses as numbers
 pub entry-told : (frame : List ℕ) (e : Entry) (destination source size : ℕ) → destination ≡ addressNumber (e .head .destination)
@@ -46,3 +47,8 @@ pub header-told : (h : Header) (name extension uploaded upload : ℕ) → name �
       upload = upload;
     } ≡ headerNumbers h
 header-told h name extension uploaded upload n e p u = rw (n, e, p, u)
+
+-- the header's own length, and those values
+pub file-header-told : (h : Header) (values : HeaderNumbers) → values ≡ headerNumbers h
+    → record { length = h .bytes; values = values } ≡ fileHeaderNumbers h
+file-header-told h values e = rw e

@@ -65,7 +65,7 @@ abbrev pub uploadOf : Upload → ℕ
 uploadOf (Time t) = t
 uploadOf Absent = 0
 
--- the values of a file header as numbers, but for its file's number and its own length, which the entry's numbers tell
+-- the values of a file header as numbers, but for its file's number and its own length, which are told beside them
 pub record HeaderNumbers : Type 0 where
   pub name : ℕ
   pub extension : ℕ

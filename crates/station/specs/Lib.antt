@@ -4,6 +4,7 @@ pub mod Boundary
 pub mod AddressNumber
 pub mod Exports
 pub mod EntryExports
+pub mod HeaderExports
 pub mod Sequences
 pub mod Stations
 pub mod Calls

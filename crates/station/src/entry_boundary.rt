@@ -152,7 +152,7 @@ pub extern "C" fn station_remainder(bytes: &[u8]) -> u16
 }
 
 // A name as a number.
-fn name_number(n: Name) -> u64
+pub(crate) fn name_number(n: Name) -> u64
     ensures { λ r. ⌜ r ≡ nameNumber n ⌝ }
 {
     let high = n.c4 as u64 + 256 * (n.c5 as u64 + 256 * (n.c6 as u64 + 256 * (n.c7 as u64)));
@@ -160,14 +160,14 @@ fn name_number(n: Name) -> u64
 }
 
 // An extension as a number.
-fn extension_number(e: Extension) -> u32
+pub(crate) fn extension_number(e: Extension) -> u32
     ensures { λ r. ⌜ r ≡ extensionNumber e ⌝ }
 {
     e.c0 as u32 + 256 * (e.c1 as u32 + 256 * (e.c2 as u32))
 }
 
 // 1 where item 12 is present, and 0 where not.
-fn uploaded_of(item: Upload) -> u8
+pub(crate) fn uploaded_of(item: Upload) -> u8
     ensures { λ r. ⌜ r ≡ uploadedOf item ⌝ }
 {
     match item {
@@ -177,7 +177,7 @@ fn uploaded_of(item: Upload) -> u8
 }
 
 // The time of item 12, and 0 where it is not present.
-fn upload_of(item: Upload) -> u32
+pub(crate) fn upload_of(item: Upload) -> u32
     ensures { λ r. ⌜ r ≡ uploadOf item ⌝ }
 {
     match item {

@@ -18,6 +18,7 @@
 //                                                                 14, 8
 //   header_bytes,  its file header, a part of the frame           –                          frame, specs/Entry
 //   header_of
+//   read_header    the file header that a slice starts with       8                          header, specs/Header
 //   item_bytes     an item's data, a part of the header           –                          header, specs/Data
 //   write_fill     a request for holes                            2, 7, 12, 15, 12           request, specs/Writing
 //   write_start    a request for the start of a file              2, 12                      request, specs/Writing
@@ -31,13 +32,14 @@
 //   map_of         its map, a part of the record                  –                          record, specs/Reading
 //
 // An operation answers its values, or one numbered reason in the order above and then no lent byte has
-// changed; none asks anything of its caller. `boundary.rt` and `entry_boundary.rt` have the same operations
-// for a host program, on numbers and byte slices alone (specs/Exports, specs/EntryExports).
+// changed; none asks anything of its caller. `boundary.rt`, `entry_boundary.rt` and `header_boundary.rt` have
+// the same operations for a host program, on numbers and byte slices alone (specs/Exports, specs/EntryExports,
+// specs/HeaderExports).
 //
 // The operations that these are made of have promises of their own:
 //
 //   ax25       writable, read_address, write_address (specs/Address), read_head, write_head (specs/Head)
-//   header     read_header (specs/Header), decide, Cursor::first, Cursor::step (specs/Items)
+//   header     decide, Cursor::first, Cursor::step (specs/Items)
 //   reception  take, of a piece that was read (specs/Taking), wrong_length, short (specs/Reception), map_size
 //              (positions, specs/Map)
 //   remainder  remainder (specs/Remainder), check_right (specs/Check)
@@ -52,6 +54,7 @@
 // second answer meets a promise is in `proofs/OnlyOne.antt` of each crate.
 pub mod boundary;
 pub mod entry_boundary;
+pub mod header_boundary;
 
 use frame::PieceRead;
 pub use frame::header_bytes;
@@ -61,6 +64,7 @@ pub use frame::piece_of;
 pub use frame::read_entry;
 pub use frame::read_piece;
 pub use header::item_bytes;
+pub use header::read_header;
 pub use reception::Added;
 pub use reception::count_held;
 pub use reception::is_held;
