@@ -11,6 +11,8 @@ use Rattle.reason.specs.Answer.{Answer, accepted, refused, leaving}
 use Rattle.reason.specs.Order.{Check, First, NoneHolds, Exactly}
 use Rattle.ax25.specs.Address.{isWritable}
 use Rattle.ax25.specs.Head.{headChecks}
+use Rattle.header.specs.Header.{headerChecks}
+use Rattle.header.proofs.InOrder.{read-header-in-order}
 use Rattle.frame.specs.Piece.{pieceChecks, pieceOrder}
 use Rattle.frame.specs.Entry.{entryChecks, entryOrder}
 use Rattle.frame.proofs.InOrder.{read-piece-in-order, read-entry-in-order}
@@ -98,6 +100,7 @@ at-boundary = record {
   station-piece = λ frame lent. returns (pieceOrder frame) _ _ _ lent refl (read-piece-in-order frame);
   station-entry = λ frame lent. returns (entryOrder frame) _ _ _ lent refl (read-entry-in-order frame);
   station-entry-header = λ frame lent. returns (entryOrder frame) _ _ _ lent refl (read-entry-in-order frame);
+  station-header = λ bytes number lent. returns (headerChecks bytes number) _ _ _ lent refl (read-header-in-order bytes number);
   station-write-request = λ w place lent. returns (fillChecks w place (lent .target)) _ _ _ lent refl (write-fill-in-order w place (lent .target));
   station-write-start = λ head number lent. returns (startChecks head lent) _ _ _ lent refl (write-start-in-order head number lent);
   station-read-request = λ frame lent. returns (requestOrder frame) _ _ _ lent refl (read-request-in-order frame);

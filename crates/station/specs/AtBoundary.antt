@@ -9,6 +9,7 @@ use Rattle.reason.specs.Order.{Check, First, NoneHolds}
 use Rattle.ax25.specs.declared.Address.{Address}
 use Rattle.ax25.specs.declared.Head.{Head}
 use Rattle.ax25.specs.Address.{isWritable}
+use Rattle.header.specs.Header.{headerChecks}
 use Rattle.frame.specs.Piece.{pieceOrder}
 use Rattle.frame.specs.Entry.{entryOrder}
 use Rattle.reception.specs.declared.Hole.{Hole}
@@ -26,6 +27,7 @@ use Rattle.station.specs.Lent.{Lent}
 use Rattle.station.specs.Demand1.{lastReason}
 use Rattle.station.specs.Exports as out
 use Rattle.station.specs.EntryExports as entry
+use Rattle.station.specs.HeaderExports.{FileHeaderNumbers, FileHeaderOut}
 
 -- One function, for one input: `checks` are the reasons of its operation in their order, and `promise r left` is its promise, r being
 -- what it returns and `left` what it leaves of what it was lent.
@@ -51,6 +53,8 @@ pub record AtBoundary : Type 0 where
   pub station-piece : (frame : List ℕ) (lent : out.PieceNumbers) → Returns (pieceOrder frame) lent (out.PieceOut frame lent)
   pub station-entry : (frame : List ℕ) (lent : entry.EntryNumbers) → Returns (entryOrder frame) lent (entry.EntryOut frame lent)
   pub station-entry-header : (frame : List ℕ) (lent : entry.HeaderNumbers) → Returns (entryOrder frame) lent (entry.HeaderOut frame lent)
+  pub station-header : (bytes : List ℕ) (number : ℕ) (lent : FileHeaderNumbers)
+      → Returns (headerChecks bytes number) lent (FileHeaderOut bytes number lent)
   pub station-write-request : (w : Wanted) (place : ℕ) (lent : out.WrittenRequest)
       → Returns (fillChecks w place (lent .target)) lent (out.FillsOut w place lent)
   pub station-write-start : (head : Head) (number : ℕ) (lent : List ℕ) → Returns (startChecks head lent) lent (out.StartsOut head number lent)
