@@ -11,7 +11,7 @@ use Rattle.positions.specs.Map.{bit, held, bitsFrom, mapOf}
 use Rattle.ax25.specs.Address.{isName, isWritable, addressAt, wellFormed, readAddress, writeAddress}
 use Rattle.ax25.specs.Head.{headChecks, headOf, headBytes}
 use Rattle.header.specs.Items.{mandatoryItems, knownItems, decisionOf, stepWith, stepAt, itemsFrom}
-use Rattle.header.specs.Header.{headerSum, headerOf, keepsRules}
+use Rattle.header.specs.Header.{headerSum, headerOf, keepsRules, readHeader}
 use Rattle.frame.specs.Piece.{pieceChecks, pieceFields, readPiece}
 use Rattle.frame.specs.Entry.{entryChecks, entryFields, readEntry}
 use Rattle.reception.specs.Opening.{opening}
@@ -29,7 +29,7 @@ use Rattle.station.specs.AddressNumber.{addressOf}
 use Rattle.station.specs.BoundaryCases.{BoundaryCases}
 
 pub boundary-cases : BoundaryCases
-unfolding firstOf putIn withBit withBits messageBits remainderOf checkRight figure32 isName isWritable addressAt wellFormed readAddress writeAddress headChecks headOf headBytes mandatoryItems knownItems decisionOf stepWith stepAt itemsFrom headerSum headerOf keepsRules pieceChecks pieceFields readPiece entryChecks entryFields readEntry every count first bit held bitsFrom mapOf opening joining listing requestFrame holesRight holeSpelled requestChecks requestFields readRequest filling starting recordOf saving isRecord loading takingFrame addressOf
+unfolding firstOf putIn withBit withBits messageBits remainderOf checkRight figure32 isName isWritable addressAt wellFormed readAddress writeAddress headChecks headOf headBytes mandatoryItems knownItems decisionOf stepWith stepAt itemsFrom headerSum headerOf keepsRules readHeader pieceChecks pieceFields readPiece entryChecks entryFields readEntry every count first bit held bitsFrom mapOf opening joining listing requestFrame holesRight holeSpelled requestChecks requestFields readRequest filling starting recordOf saving isRecord loading takingFrame addressOf
 boundary-cases = record {
   va3sfl-as-number = (refl, refl);
   uosat5-as-number = (refl, refl);
@@ -45,6 +45,9 @@ boundary-cases = record {
   piece-refused = record { returns = refl; leaves = refl };
   entry-out = record { returns = refl; leaves = refl };
   header-out = record { returns = refl; leaves = refl };
+  file-header-out = record { returns = refl; leaves = refl };
+  file-header-of-another = record { returns = refl; leaves = refl };
+  file-header-broken = record { returns = refl; leaves = refl };
   extension-out = refl;
   no-upload = (refl, refl);
   write-request-out = record { returns = refl; leaves = refl };

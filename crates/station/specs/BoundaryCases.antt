@@ -18,6 +18,7 @@ use Rattle.request.specs.Writing.{Wanted}
 use Rattle.station.specs.AddressNumber.{addressNumber, addressOf}
 use Rattle.station.specs.Exports.{OpensOut, Counted, TakesOut, JoinsOut, ListsOut, SavesOut, LoadsOut, PieceNumbers, PieceOut, headTold, WrittenRequest, FillsOut, StartsOut, RequestNumbers, RequestOut, HoleOut}
 use Rattle.station.specs.EntryExports.{EntryNumbers, EntryOut, HeaderNumbers, HeaderOut, extensionNumber, uploadedOf, uploadOf}
+use Rattle.station.specs.HeaderExports.{FileHeaderNumbers, FileHeaderOut}
 use Rattle.station.specs.Cases.{twenty, front, middle, later}
 
 -- VA3SFL-0 and UOSAT5-11 as numbers
@@ -61,6 +62,14 @@ headerLent = record {
   uploaded = 9;
   upload = 9;
 }
+
+-- the start of a file: the header of figure 3.2 with item 0B beyond the header's length, so that the two differ, and the sum to match;
+-- two bytes more behind it
+abbrev pub fileStart : List ℕ
+fileStart = set (set (drop 17 figure32) 75 0x60) 70 0x94 ++ 0x41 ∷ 0x42 ∷ []
+
+abbrev pub fileHeaderLent : FileHeaderNumbers
+fileHeaderLent = record { length = 9; values = headerLent }
 
 -- lent for a count, a map and a buffer
 abbrev pub counted : ℕ → List ℕ → List ℕ → Counted
@@ -132,6 +141,26 @@ pub record BoundaryCases : Type 0 where
         uploaded = 1;
         upload = 0x383C7EE0;
       })
+  pub file-header-out : FileHeaderOut fileStart 0xAE67 fileHeaderLent 0
+      (record {
+        length = 80;
+        values = record {
+          name = 0x3432313139394C42;
+          extension = 0x202020;
+          size = 0x06E0;
+          created = 0x383B2D49;
+          modified = 0x383C7EE1;
+          upset = 0;
+          kind = 0xCA;
+          bodysum = 0x44FB;
+          headersum = 0x0C94;
+          body = 0x60;
+          uploaded = 1;
+          upload = 0x383C7EE0;
+        };
+      })
+  pub file-header-of-another : FileHeaderOut fileStart 0xAE68 fileHeaderLent 8 fileHeaderLent
+  pub file-header-broken : FileHeaderOut (set fileStart 70 0x84) 0xAE67 fileHeaderLent 8 fileHeaderLent
   pub extension-out : extensionNumber (record { c0 = 1; c1 = 2; c2 = 3 }) ≡ 0x030201
   pub no-upload : (uploadedOf Absent ≡ 0) × (uploadOf Absent ≡ 0)
   pub write-request-out : FillsOut (asked uosat5Number) 0 requestLent 0
