@@ -123,6 +123,24 @@ extern "C" {
         uploaded: &mut u8,
         upload: &mut u32,
     ) -> u8;
+    fn station_header(
+        bytes: *const u8,
+        bytes_size: usize,
+        number: u32,
+        length: &mut usize,
+        name: &mut u64,
+        extension: &mut u32,
+        whole: &mut u32,
+        created: &mut u32,
+        modified: &mut u32,
+        upset: &mut u8,
+        kind: &mut u8,
+        bodysum: &mut u16,
+        headersum: &mut u16,
+        body: &mut u16,
+        uploaded: &mut u8,
+        upload: &mut u32,
+    ) -> u8;
     fn station_is_held(length: u32, map: *const u8, map_size: usize, position: u32) -> bool;
     fn station_count_held(length: u32, map: *const u8, map_size: usize) -> u32;
     fn station_remainder(bytes: *const u8, bytes_size: usize) -> u16;
@@ -390,7 +408,7 @@ pub struct EntryTold {
     pub size: usize,
 }
 
-/// What [`entry`] tells beside: the values of the file header's items.
+/// What [`entry`] tells beside, and [`header`] too: the values of the file header's items.
 #[derive(Clone, Copy, Debug, Default, PartialEq, Eq)]
 pub struct HeaderTold {
     /// Item 02: the eight bytes of the name, least significant byte first.
@@ -446,6 +464,31 @@ pub fn entry(frame: &[u8], told: &mut EntryTold, header: &mut HeaderTold) -> Res
             &mut header.body,
             &mut header.uploaded,
             &mut header.upload,
+        )
+    })
+}
+
+/// Reads the file header that the bytes start with, of the file with the number, and tells how many bytes the header
+/// itself has. What follows it is not looked at. Refuses 8.
+pub fn header(bytes: &[u8], number: u32, length: &mut usize, told: &mut HeaderTold) -> Result<(), Reason> {
+    answer(unsafe {
+        station_header(
+            bytes.as_ptr(),
+            bytes.len(),
+            number,
+            length,
+            &mut told.name,
+            &mut told.extension,
+            &mut told.size,
+            &mut told.created,
+            &mut told.modified,
+            &mut told.upset,
+            &mut told.kind,
+            &mut told.bodysum,
+            &mut told.headersum,
+            &mut told.body,
+            &mut told.uploaded,
+            &mut told.upload,
         )
     })
 }

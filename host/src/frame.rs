@@ -104,15 +104,19 @@ impl<'a> Entry<'a> {
             offset: told.offset,
             old: told.old,
             new: told.new,
-            header: Header::told(header),
+            header: Header::told(header, told.size),
             bytes: &frame[told.start..told.start + told.size],
         })
     }
 }
 
 /// The values of a file header's items. Times are seconds since the start of 1970.
+///
+/// A directory entry has a header, and a file starts with it.
 #[derive(Clone, Copy, Debug, PartialEq, Eq)]
 pub struct Header {
+    /// How many bytes the header itself has, from AA 55 to the end item.
+    pub length: usize,
     /// Item 02: the name.
     pub name: [u8; 8],
     /// Item 03: the extension.
@@ -138,10 +142,45 @@ pub struct Header {
 }
 
 impl Header {
-    // The header that the library told.
-    fn told(told: boundary::HeaderTold) -> Header {
+    /// Reads the file header that bytes start with, of the file with a number. What follows the header is not looked at.
+    ///
+    /// A file starts with its header, so the piece at offset 0 tells the file's length, where the header is whole in it.
+    ///
+    /// ```
+    /// use thoweldeck::{Header, Piece, Reason};
+    ///
+    /// // a sample of this package: the first piece of a made-up file
+    /// let frame = include_bytes!(concat!(env!("CARGO_MANIFEST_DIR"), "/samples/survey/first/01.frame"));
+    /// let piece = Piece::read(frame)?;
+    /// assert_eq!(piece.offset, 0);
+    ///
+    /// let header = Header::read(piece.bytes, piece.number)?;
+    /// assert_eq!((header.length, header.size), (80, 2358));
+    /// assert!(piece.bytes[header.length..].starts_with(b"Lake survey"));
+    ///
+    /// // not whole, and another file's
+    /// assert_eq!(Header::read(&piece.bytes[..79], piece.number), Err(Reason::Header));
+    /// assert_eq!(Header::read(piece.bytes, 7), Err(Reason::Header));
+    /// # Ok::<(), Reason>(())
+    /// ```
+    ///
+    /// # Errors
+    ///
+    /// Refuses 8 where the header breaks a rule: it does not start with AA 55 or has no end item within the bytes; an
+    /// item is missing, repeated or of another length; its sum differs, its number is another, or the body starts
+    /// inside it or beyond the file.
+    pub fn read(bytes: &[u8], number: u32) -> Result<Header, Reason> {
+        let mut length = 0;
+        let mut told = boundary::HeaderTold::default();
+        boundary::header(bytes, number, &mut length, &mut told)?;
+        Ok(Header::told(told, length))
+    }
+
+    // The header that the library told, and how many bytes it has.
+    fn told(told: boundary::HeaderTold, length: usize) -> Header {
         let [a, b, c, _] = told.extension.to_le_bytes();
         Header {
+            length,
             name: told.name.to_le_bytes(),
             extension: [a, b, c],
             size: told.size,

@@ -8,6 +8,7 @@
 //!   [`join`](Reception::join), [`holes`](Reception::holes), [`requests`](Reception::requests),
 //!   [`save`](Reception::save), [`load`](Reception::load);
 //! - [`Piece`], [`Entry`], [`Request`]: a frame, read;
+//! - [`Header`]: a file header, read with its directory entry or from the start of the file itself;
 //! - [`Address`]: a callsign and its SSID, from and to the text `VA3SFL-0`;
 //! - [`Reason`]: why something was refused, with the paper's number and a sentence;
 //! - [`boundary`]: the proved functions themselves, on numbers and lent slices.
