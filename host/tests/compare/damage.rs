@@ -46,14 +46,18 @@ pub fn repair_check(frame: &mut [u8]) {
 /// Makes item 0A of a directory entry right, where its head can be found.
 pub fn repair_sum(frame: &mut [u8]) {
     let header = 16 + 17;
-    if frame.len() < header + 5 {
-        return;
+    if frame.len() >= header + 5 {
+        let end = frame.len() - 2;
+        repair_header(&mut frame[header..end]);
     }
-    let end = frame.len() - 2;
-    let head = frame[header..end].windows(3).position(|bytes| bytes == [0x0A, 0, 2]);
-    if let Some(place) = head.map(|place| header + place + 3).filter(|place| place + 2 <= end) {
-        frame[place..place + 2].fill(0);
-        let sum: u32 = frame[header..end].iter().map(|&byte| u32::from(byte)).sum();
-        frame[place..place + 2].copy_from_slice(&(sum as u16).to_le_bytes());
+}
+
+/// Makes item 0A of a file header right, where its head can be found.
+pub fn repair_header(header: &mut [u8]) {
+    let head = header.windows(3).position(|bytes| bytes == [0x0A, 0, 2]);
+    if let Some(place) = head.map(|place| place + 3).filter(|place| place + 2 <= header.len()) {
+        header[place..place + 2].fill(0);
+        let sum: u32 = header.iter().map(|&byte| u32::from(byte)).sum();
+        header[place..place + 2].copy_from_slice(&(sum as u16).to_le_bytes());
     }
 }

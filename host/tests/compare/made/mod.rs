@@ -1,5 +1,6 @@
 //! Makes frames from their parts, so that each part can be set wrong before they are put together.
 pub mod entry;
+pub mod header;
 pub mod piece;
 pub mod request;
 

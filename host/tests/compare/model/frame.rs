@@ -89,7 +89,7 @@ pub fn entry(frame: &[u8]) -> Answer<Entry> {
     // 8: file header breaks a rule; in a directory entry nothing follows it.
     let bytes = &information[ENTRY_FIELDS..information.len() - CHECK];
     let file_number = number(&information[1..5]);
-    let (header, size) = header::read(bytes, file_number).ok_or(8)?;
+    let (header, size) = header::read(bytes, file_number)?;
     refuse_if(size != bytes.len(), 8)?;
     Ok(Entry {
         destination: parts.destination,

@@ -2,7 +2,7 @@
 //! (01, File header).
 
 use super::numbers::{number, short_number};
-use super::Header;
+use super::{refuse_if, Answer, Header};
 
 /// An item: its id, its data, and where its data start in the header.
 struct Item<'a> {
@@ -117,18 +117,17 @@ fn values(items: &[Item]) -> Option<Header> {
     })
 }
 
-/// Reads the file header these bytes begin with, and its length; nothing if it
-/// breaks a rule. That nothing follows it is a rule of the directory entry.
-pub fn read(bytes: &[u8], file_number: u32) -> Option<(Header, usize)> {
-    let (items, length) = items(bytes)?;
+/// Reads the file header these bytes begin with, and its length. That nothing
+/// follows it is a rule of the directory entry.
+pub fn read(bytes: &[u8], file_number: u32) -> Answer<(Header, usize)> {
+    // 8: file header breaks a rule.
+    let (items, length) = items(bytes).ok_or(8)?;
     let header = &bytes[..length];
     let right = mandatory_items_once(&items)
         && upload_at_most_once(&items)
         && sum_agrees(header, &items)
         && number_agrees(&items, file_number)
         && body_place_agrees(&items, length);
-    if !right {
-        return None;
-    }
-    Some((values(&items)?, length))
+    refuse_if(!right, 8)?;
+    Ok((values(&items).ok_or(8)?, length))
 }

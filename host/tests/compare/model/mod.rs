@@ -21,6 +21,7 @@ mod request;
 
 pub use check::remainder;
 pub use frame::{entry, piece};
+pub use header::read as read_header;
 pub use reception::{count_held, is_held, join, list, open, take};
 pub use record::{load, save};
 pub use request::{read_request, write_request, write_start};

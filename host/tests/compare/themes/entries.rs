@@ -1,7 +1,8 @@
 //! Reading directory entries and their headers: every rule kept and broken, faults, and damaged ones.
 use super::shared::Kind;
 use crate::both::{Both, Part};
-use crate::made::entry::{self, Broken, BROKEN, MANDATORY};
+use crate::made::entry;
+use crate::made::header::{self, Broken, BROKEN};
 use crate::random::Random;
 use crate::{damage, faults};
 
@@ -33,37 +34,12 @@ fn every_size(both: &mut Both, random: &mut Random) {
     }
     for _ in 0..20 {
         let mut draft = entry::any(random);
-        let number = draft.information[1..5].to_vec();
+        let number = [1, 2, 3, 4].map(|place| draft.information[place]);
         draft.information.truncate(17);
-        let size = random.within(250, 259);
-        draft.information.extend(filled_header(random, &number, size));
+        let length = random.within(250, 259) - 19;
+        draft.information.extend(header::of_length(random, u32::from_le_bytes(number), length));
         both.entry(&draft.bytes());
     }
-}
-
-// A right header so long that the information has this size.
-fn filled_header(random: &mut Random, number: &[u8], size: usize) -> Vec<u8> {
-    let length = size - 19;
-    let mut header = vec![0xAA, 0x55];
-    for (id, data) in MANDATORY {
-        header.extend([id as u8, 0, data as u8]);
-        let value = match id {
-            1 => number.to_vec(),
-            4 => vec![0xFF; 4],
-            10 => vec![0; 2],
-            11 => (length as u16).to_le_bytes().to_vec(),
-            _ => random.bytes(data),
-        };
-        header.extend(value);
-    }
-    let extra = length - 73 - 3;
-    header.extend([0x20, 0, extra as u8]);
-    header.extend(random.bytes(extra));
-    header.extend([0; 3]);
-    let sum: u32 = header.iter().map(|&byte| u32::from(byte)).sum();
-    let place = header.windows(3).position(|bytes| bytes == [0x0A, 0, 2]).expect("item 0A is there") + 3;
-    header[place..place + 2].copy_from_slice(&(sum as u16).to_le_bytes());
-    header
 }
 
 // Each rule of the header broken alone, and with another one.
