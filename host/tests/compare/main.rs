@@ -71,6 +71,7 @@ themes! {
     ]
     pieces         2_000    250_000 [PIECE, REMAINDER]
     entries        2_000    200_000 [ENTRY]
+    headers        2_000    110_000 [HEADER]
     requests_read  2_500    280_000 [READ_REQUEST, HOLE]
     opens         10_000     40_000 [OPEN]
     takes          5_000    350_000 [TAKE]
@@ -88,9 +89,10 @@ themes! {
         order("load", "13"),
         order("write_request", "7")
     ]
-    frames_read   12_000     48_000 [
+    frames_read   12_000     60_000 [
         order("Piece::read", "accepted 1 2 3 4 7 6 5"),
         order("Entry::read", "accepted 1 2 3 4 7 6 5 14 8"),
+        order("Header::read", "accepted 8"),
         order("Request::read", "accepted 1 2 3 4 7 5 10"),
         order("Request::start", "accepted")
     ]

@@ -26,6 +26,7 @@ pub struct Order {
 
 pub const PIECE: Order = Order { operation: "piece", cases: "accepted 1 2 3 4 7 1' 6 5 7'" };
 pub const ENTRY: Order = Order { operation: "entry", cases: "accepted 1 2 3 4 7 1' 6 5 14 8" };
+pub const HEADER: Order = Order { operation: "header", cases: "accepted 8" };
 pub const READ_REQUEST: Order = Order { operation: "read_request", cases: "accepted 1 2 3 4 7 1' 5 7' 10" };
 pub const HOLE: Order = Order { operation: "hole", cases: "accepted 1 2 3 4 7 1' 5 7' 10" };
 pub const OPEN: Order = Order { operation: "open", cases: "accepted 7 12 12'" };

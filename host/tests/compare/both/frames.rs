@@ -1,4 +1,4 @@
-//! Reading frames: pieces, entries with their headers, requests with their holes.
+//! Reading frames: pieces, entries with their headers, requests with their holes; and headers by themselves.
 use super::{Both, Compared, Outcome, Part};
 use crate::made::number_of;
 use crate::model::{self, Answer};
@@ -36,6 +36,21 @@ impl Both {
         let library = Outcome::library(answer, told, vec![lent]);
         let expected = Outcome::model(&model.clone().map(entry_told), before, vec![frame.to_vec()]);
         self.compare(("entry", frame_case(&model, frame)), &[Part::Bytes("frame", frame)], &library, &expected);
+        Compared { answer: model }
+    }
+
+    /// The header that bytes start with, and its length.
+    pub fn header(&mut self, bytes: &[u8], number: u32) -> Compared<(model::Header, usize)> {
+        let before = (self.rubbish.draw() as usize, self.rubbish_header());
+        let (lent, mut told) = (bytes.to_vec(), before);
+        let answer = boundary::header(&lent, number, &mut told.0, &mut told.1);
+        let model = model::read_header(bytes, number);
+        let library = Outcome::library(answer, told, vec![lent]);
+        let told = model.clone().map(|(header, length)| (length, header_told(&header)));
+        let expected = Outcome::model(&told, before, vec![bytes.to_vec()]);
+        let input = [Part::Number("number", number.into()), Part::Bytes("bytes", bytes)];
+        let case = case(expected.reason, 0);
+        self.compare(("header", case), &input, &library, &expected);
         Compared { answer: model }
     }
 

@@ -1,15 +1,16 @@
-//! The types of frames that are read, and the request for a start, beside the model.
-use super::{entries, pieces, requests_read};
+//! The types of frames and headers that are read, and the request for a start, beside the model.
+use super::{entries, headers, pieces, requests_read};
 use crate::both::{Both, Part};
 use crate::made::{address, address_of, file_number};
 use crate::model;
 use crate::random::Random;
 use crate::tally::ACCEPTED;
-use thoweldeck::{Address, Asks, Entry, Piece, Request};
+use thoweldeck::{Address, Asks, Entry, Header, Piece, Request};
 
 pub fn round(both: &mut Both, random: &mut Random) {
     piece(both, &pieces::one(random));
     entry(both, &entries::one(random));
+    header(both, headers::one(random));
     request(both, &requests_read::one(random));
     start(both, random);
 }
@@ -40,16 +41,25 @@ fn piece(both: &mut Both, frame: &[u8]) {
 }
 
 fn entry(both: &mut Both, frame: &[u8]) {
-    let library = Entry::read(frame).map(|entry| {
+    let (input, read) = ([Part::Bytes("frame", frame)], Entry::read(frame));
+    let all = read.map_or(true, |entry| entry.header.length == entry.bytes.len());
+    both.claim(all, "an entry's header has all its bytes", &input);
+    let library = read.map(|entry| {
         let (start, size) = place_in(frame, entry.bytes);
         let Entry { flags, number, offset, old, new, .. } = entry;
-        let (destination, source, header) = (plain(entry.destination), plain(entry.source), header(entry.header));
+        let (destination, source, header) = (plain(entry.destination), plain(entry.source), values(entry.header));
         model::Entry { destination, source, flags, number, offset, old, new, start, size, header }
     });
-    both.alike("Entry::read", &[Part::Bytes("frame", frame)], library, model::entry(frame));
+    both.alike("Entry::read", &input, library, model::entry(frame));
 }
 
-fn header(header: thoweldeck::Header) -> model::Header {
+fn header(both: &mut Both, (bytes, number): (Vec<u8>, u32)) {
+    let library = Header::read(&bytes, number).map(|header| (values(header), header.length));
+    let input = [Part::Number("number", number.into()), Part::Bytes("bytes", &bytes)];
+    both.alike("Header::read", &input, library, model::read_header(&bytes, number));
+}
+
+fn values(header: Header) -> model::Header {
     model::Header {
         name: header.name,
         extension: header.extension,

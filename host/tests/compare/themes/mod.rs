@@ -2,6 +2,7 @@
 pub mod addresses;
 pub mod entries;
 pub mod frames_read;
+pub mod headers;
 pub mod holes;
 pub mod joins;
 pub mod limits;
