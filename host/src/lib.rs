@@ -35,8 +35,27 @@
 //! assert_eq!(first.file(), Some(&b"store-and!"[..]));
 //! # Ok::<(), Reason>(())
 //! ```
+//!
+//! # Linking
+//!
+//! The library must be there before a program is built over this package, and it links only into programs for x86-64.
+//! `./tour` in the project's first folder proves it and writes `target/staticlib/libstation.a`, which is where this
+//! package looks for it. A library that was built elsewhere is found through the variable `THOWELDECK_LIBRARY`, the full
+//! path of the folder that has `libstation.a`:
+//!
+//! ```console
+//! $ THOWELDECK_LIBRARY=/srv/station/lib cargo build --release
+//! ```
+//!
+//! It is linked into a program once (`links = "station"`).
 #![warn(missing_docs)]
 #![deny(unsafe_code)]
+// build.rs sets `no_library`, and Rust 1.63 does not know the lint on names that cargo has not heard of
+#![allow(unknown_lints, unexpected_cfgs)]
+
+// the pages of the documentation need no library
+#[cfg(all(no_library, not(doc)))]
+compile_error!(env!("THOWELDECK_NO_LIBRARY"));
 
 mod address;
 #[allow(unsafe_code)]
