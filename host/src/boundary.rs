@@ -1,5 +1,5 @@
-//! The proved library's functions on numbers and lent slices, with safe types: the one module that has
-//! `unsafe` and the declarations of what `libstation.a` exports.
+//! The proved library's functions on numbers and lent slices, with safe types: the one module that declares and
+//! calls what `libstation.a` exports.
 //!
 //! A function answers `Ok(())`, or the reason of the refusal. What it tells stands in numbers that it is
 //! lent, beside the lent slices; **a refusal leaves every lent number and byte as it was**, which is proved

@@ -11,7 +11,8 @@
 //! - [`Header`]: a file header, read with its directory entry or from the start of the file itself;
 //! - [`Address`]: a callsign and its SSID, from and to the text `VA3SFL-0`;
 //! - [`Reason`]: why something was refused, with the paper's number and a sentence;
-//! - [`boundary`]: the proved functions themselves, on numbers and lent slices.
+//! - [`boundary`]: the proved functions themselves, on numbers and lent slices;
+//! - [`lock`]: a lock on an open file, for programs that share records.
 //!
 //! Two stations that each missed a part of a file have it whole together:
 //!
@@ -61,6 +62,8 @@ mod address;
 #[allow(unsafe_code)]
 pub mod boundary;
 mod frame;
+#[allow(unsafe_code)]
+pub mod lock;
 mod reason;
 mod reception;
 mod request;
