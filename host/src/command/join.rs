@@ -10,17 +10,17 @@ pub fn run(words: Words, out: &mut Out<'_>) -> End {
     let third = words.path("-o")?;
     // the joined record has all that A and B have, so it may take the place of either
     let over = files::is_same(&third, &first) || files::is_same(&third, &second);
-    let _lock = files::Lock::of(&third)?;
+    let target = files::Target::lock(&third)?;
     let mut joined = files::record(&first)?;
     let other = files::record(&second)?;
     let new = joined.join(&other).map_err(|reason| {
         let both = format!("{} joined with {}", shown(&first), shown(&second));
         Failure::Refused(both, Cause::from(reason))
     })?;
-    if over {
-        files::write_whole(&third, &joined.save())?;
-    } else {
-        files::write_another(&third, &joined.save())?;
+    if !over {
+        target.create(&joined.save())?;
+    } else if let Some(note) = target.replace(&joined.save())? {
+        out.line(note);
     }
     let new = counted(new as usize, "byte");
     out.line(format!("{}: has {new} that {} has not", shown(&second), shown(&first)));

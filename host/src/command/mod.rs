@@ -9,13 +9,16 @@ mod help;
 mod holes;
 mod input;
 mod join;
+mod lock;
 mod names;
 mod out;
+mod paths;
 mod request;
 mod save;
 mod show;
 mod take;
 mod words;
+mod writing;
 
 pub use out::Out;
 

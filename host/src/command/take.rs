@@ -21,8 +21,8 @@ pub fn run(words: Words, out: &mut Out<'_>) -> End {
             input::frames(&source.read()?).map_err(|strange| Failure::Trouble(format!("{source}: {strange}")))?;
         frames.extend(read.frames.into_iter().map(|heard| (name.clone(), heard.bytes)));
     }
-    let _lock = files::Lock::of(&path)?;
-    let is_new = !files::is_there(&path);
+    let target = files::Target::lock(&path)?;
+    let is_new = !target.is_there();
     let mut reception = if is_new { opened(&path, wanted, &frames, out)? } else { extended(&path, wanted)? };
     let before = reception.held();
     let mut ended = Ended::Well;
@@ -32,9 +32,11 @@ pub fn run(words: Words, out: &mut Out<'_>) -> End {
         }
     }
     if is_new {
-        files::write_another(&path, &reception.save()).map_err(not_kept)?;
+        target.create(&reception.save()).map_err(not_kept)?;
     } else if reception.held() > before {
-        files::write_whole(&path, &reception.save()).map_err(not_kept)?;
+        if let Some(note) = target.replace(&reception.save()).map_err(not_kept)? {
+            out.line(note);
+        }
     }
     out.line(format!("{}: {}", shown(&path), super::holes::summary(&reception)));
     Ok(ended)

@@ -1,0 +1,225 @@
+//! Writing so that nothing is lost: under the lock of what is written, whole or not at all, and then on the disk.
+use super::lock::{Lock, WAIT};
+use super::names::shown;
+use super::paths::{beside, end_of, folder};
+use super::Failure;
+use std::fs::{self, File, Metadata, OpenOptions};
+use std::io::{self, ErrorKind, Write};
+use std::os::unix::fs::{MetadataExt, OpenOptionsExt};
+use std::path::{Path, PathBuf};
+
+/// A file that is to be written, and that no other run writes as long as this is there.
+pub struct Target {
+    // what the user calls it, the file that this leads to, and the new file beside it
+    name: PathBuf,
+    path: PathBuf,
+    new: PathBuf,
+    _lock: Lock,
+}
+
+impl Target {
+    /// Waits until no other run has the file that a name leads to. Where it may not be written, nothing is made.
+    pub fn lock(name: &Path) -> Result<Target, Failure> {
+        let path = end_of(name)?;
+        let new = beside(&path, "new")?;
+        if !folder(&path).is_dir() {
+            let (name, folder) = (shown(name), shown(folder(&path)));
+            return Err(Failure::Trouble(format!("{name}: cannot be written: there is no folder {folder}")));
+        }
+        replaceable(name, &path)?;
+        let lock = Lock::of(name, &path, WAIT)?;
+        Ok(Target { name: name.to_path_buf(), path, new, _lock: lock })
+    }
+
+    /// Whether the file is there.
+    pub fn is_there(&self) -> bool {
+        self.path.symlink_metadata().is_ok()
+    }
+
+    /// Writes the file where it is not there yet, and over nothing.
+    pub fn create(&self, bytes: &[u8]) -> Result<(), Failure> {
+        if self.is_there() {
+            return Err(there(&self.name));
+        }
+        self.clear()?;
+        self.done(&self.new, written(&self.new, bytes, None))?;
+        match linked(&self.new, &self.path) {
+            Err(error) if error.kind() == ErrorKind::AlreadyExists => {
+                let _ = fs::remove_file(&self.new);
+                return Err(there(&self.name));
+            }
+            // a disk that has no second names
+            Err(_) => self.done(&self.new, renamed(&self.new, &self.path))?,
+            Ok(()) => self.done(&self.new, fs::remove_file(&self.new))?,
+        }
+        self.done(folder(&self.path), folder_synced(folder(&self.path)))
+    }
+
+    /// Writes the record again, with the permissions that it has. Answers a line for the user where the old one has
+    /// another name, and so is still there.
+    pub fn replace(&self, bytes: &[u8]) -> Result<Option<String>, Failure> {
+        self.clear()?;
+        // asked again, since it may have changed while another run was waited for
+        let old = replaceable(&self.name, &self.path)?;
+        self.done(&self.new, written(&self.new, bytes, old.as_ref()))?;
+        self.done(&self.new, renamed(&self.new, &self.path))?;
+        self.done(folder(&self.path), folder_synced(folder(&self.path)))?;
+        Ok(old.filter(|old| old.nlink() > 1).map(|_| {
+            format!("{}: had a second name (a hard link), which keeps the record as it was", shown(&self.name))
+        }))
+    }
+
+    // Removes the new file that a killed run has left. It is the work of nobody: who writes it has the lock.
+    fn clear(&self) -> Result<(), Failure> {
+        match fs::remove_file(&self.new) {
+            Err(error) if error.kind() != ErrorKind::NotFound => Err(self.trouble(&self.new, &error)),
+            _ => Ok(()),
+        }
+    }
+
+    // What came of a step with a file. Where it failed, the new file goes.
+    fn done(&self, with: &Path, step: io::Result<()>) -> Result<(), Failure> {
+        step.map_err(|error| {
+            let _ = fs::remove_file(&self.new);
+            self.trouble(with, &error)
+        })
+    }
+
+    // The line for a step that failed: what is not written, and the file that the error is about.
+    fn trouble(&self, with: &Path, error: &io::Error) -> Failure {
+        Failure::Trouble(format!("{}: cannot be written: {}: {error}", shown(&self.name), shown(with)))
+    }
+}
+
+/// Writes a file that is not there yet: whole or not at all, and over nothing.
+pub fn write_another(name: &Path, bytes: &[u8]) -> Result<(), Failure> {
+    if name.metadata().is_ok() {
+        return Err(there(name));
+    }
+    Target::lock(name)?.create(bytes)
+}
+
+// The line for a file that is not written over.
+fn there(name: &Path) -> Failure {
+    Failure::Stopped(format!("{}: is there already, and is left as it is", shown(name)))
+}
+
+// The file that is written over, where there is one: a plain file, and one that may be written.
+fn replaceable(name: &Path, path: &Path) -> Result<Option<Metadata>, Failure> {
+    let old = match fs::metadata(path) {
+        Ok(old) => old,
+        Err(_) => return Ok(None),
+    };
+    if !old.is_file() {
+        return Err(Failure::Trouble(format!("{}: is no plain file, and is left as it is", shown(name))));
+    }
+    // root may open any file, so that its permissions are asked too
+    if old.permissions().readonly() || OpenOptions::new().write(true).open(path).is_err() {
+        return Err(Failure::Stopped(format!("{}: is write-protected, and is left as it is", shown(name))));
+    }
+    Ok(Some(old))
+}
+
+// The steps of writing, in their order: the new file and its bytes on the disk, its name, and the name on the disk.
+
+// Makes a file with bytes in it, which are then on the disk. Nobody may read it who may not read the old one.
+fn written(path: &Path, bytes: &[u8], old: Option<&Metadata>) -> io::Result<()> {
+    let mode = old.map_or(0o666, |old| old.mode() & 0o777);
+    let mut file = OpenOptions::new().write(true).create_new(true).mode(mode).open(path)?;
+    if let Some(old) = old {
+        file.set_permissions(old.permissions())?;
+    }
+    file.write_all(bytes)?;
+    synced(&file, "the new file")
+}
+
+// Gives a file a second name, where none is there yet.
+fn linked(from: &Path, to: &Path) -> io::Result<()> {
+    noted("its name");
+    fs::hard_link(from, to)
+}
+
+// Gives a file another name, in the place of what had it.
+fn renamed(from: &Path, to: &Path) -> io::Result<()> {
+    noted("its name");
+    fs::rename(from, to)
+}
+
+// Brings the names in a folder to the disk. There are disks that cannot do it, and folders that may not be read.
+fn folder_synced(folder: &Path) -> io::Result<()> {
+    use ErrorKind::{InvalidInput, PermissionDenied, Unsupported};
+    match File::open(folder).and_then(|open| synced(&open, "the folder")) {
+        Err(error) if matches!(error.kind(), InvalidInput | Unsupported | PermissionDenied) => Ok(()),
+        came => came,
+    }
+}
+
+// Brings a file to the disk.
+fn synced(file: &File, what: &'static str) -> io::Result<()> {
+    noted(what);
+    file.sync_all()
+}
+
+// Notes a step, for the test of their order.
+#[cfg(not(test))]
+fn noted(_step: &'static str) {}
+#[cfg(test)]
+use tests::noted;
+
+#[cfg(test)]
+mod tests {
+    use super::*;
+    use std::cell::RefCell;
+
+    thread_local!(static STEPS: RefCell<Vec<&'static str>> = RefCell::new(Vec::new()));
+
+    pub fn noted(step: &'static str) {
+        STEPS.with(|steps| steps.borrow_mut().push(step));
+    }
+
+    // The steps since this was asked last.
+    fn steps() -> Vec<&'static str> {
+        STEPS.with(|steps| steps.take())
+    }
+
+    // The path of a record that is not there, for one test.
+    fn record(test: &str) -> PathBuf {
+        std::env::temp_dir().join(format!("thoweldeck-{test}-{}.record", std::process::id()))
+    }
+
+    #[test]
+    fn bytes_and_name_are_brought_to_the_disk_in_this_order() {
+        let record = record("order");
+        let order = ["the new file", "its name", "the folder"];
+        let target = Target::lock(&record).expect("the lock");
+        target.create(b"first").expect("it is written");
+        assert_eq!(steps(), order);
+        assert_eq!(target.replace(b"second").expect("it is written again"), None);
+        assert_eq!(steps(), order);
+        assert_eq!(fs::read(&record).expect("it is there"), b"second");
+        fs::remove_file(&record).expect("the file goes");
+    }
+
+    #[test]
+    fn what_is_protected_while_another_run_is_waited_for_is_left() {
+        let record = record("protected");
+        fs::write(&record, b"first").expect("a file");
+        let target = Target::lock(&record).expect("the lock");
+        let mut permissions = fs::metadata(&record).expect("the file").permissions();
+        permissions.set_readonly(true);
+        fs::set_permissions(&record, permissions).expect("it is protected");
+        let failure = target.replace(b"second").expect_err("it is protected");
+        assert!(matches!(&failure, Failure::Stopped(line) if line.contains("is write-protected")), "{failure}");
+        assert_eq!(fs::read(&record).expect("it is there"), b"first");
+        fs::remove_file(&record).expect("the file goes");
+    }
+
+    #[test]
+    fn a_disk_that_cannot_sync_folders_is_no_failure() {
+        // the one that takes everything and keeps nothing cannot sync
+        let error = File::open("/dev/null").expect("a device").sync_all().expect_err("it cannot");
+        assert_eq!(error.kind(), ErrorKind::InvalidInput);
+        assert!(folder_synced(Path::new("/dev/null")).is_ok());
+        assert!(folder_synced(&record("absent")).is_err());
+    }
+}
