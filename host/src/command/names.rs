@@ -11,10 +11,11 @@ pub fn escaped(text: &str) -> String {
     text.chars().flat_map(|c| if acts(c) { c.escape_default().collect() } else { vec![c] }).collect()
 }
 
-// Whether a character acts and is not seen: a control character, or one that turns the direction of the text.
+// Whether a character acts and is not seen: a control character, one that turns the direction of the text, or a mark.
 fn acts(c: char) -> bool {
     c.is_control()
-        || matches!(c, '\u{200b}'..='\u{200f}' | '\u{2028}'..='\u{202e}' | '\u{2066}'..='\u{2069}' | '\u{feff}')
+        || matches!(c, '\u{ad}' | '\u{61c}' | '\u{180e}' | '\u{200b}'..='\u{200f}' | '\u{2028}'..='\u{202e}')
+        || matches!(c, '\u{2060}'..='\u{206f}' | '\u{feff}' | '\u{fff9}'..='\u{fffb}' | '\u{e0000}'..='\u{e007f}')
 }
 
 #[cfg(test)]
@@ -25,6 +26,7 @@ mod tests {
     fn what_acts_is_escaped() {
         assert_eq!(shown("a record\n\u{1b}[2J\r\t\u{7f}\u{9b}"), "a record\\n\\u{1b}[2J\\r\\t\\u{7f}\\u{9b}");
         assert_eq!(shown("\u{202e}drocer.a"), "\\u{202e}drocer.a");
+        assert_eq!(shown("a\u{61c}\u{2060}b\u{ad}\u{e0041}"), "a\\u{61c}\\u{2060}b\\u{ad}\\u{e0041}");
         assert_eq!(shown("Übung 3, \\n.record"), "Übung 3, \\n.record");
     }
 }
