@@ -276,46 +276,6 @@ fn a_longest_file_goes_through() {
 }
 
 #[test]
-fn many_at_once_lose_nothing() {
-    let room = Room::new();
-    let mut line = String::new();
-    for index in 0..12 {
-        room.write(&format!("{index}"), &piece(7, index * 3, b"abc"));
-        line.push_str(&format!("thoweldeck take a.record {index} --length 100 & "));
-    }
-    room.shell(&format!("{line} wait"));
-    assert_eq!(room.record("a.record").held(), 36);
-    assert!(room.names().iter().all(|name| !name.starts_with('.')), "{:?}", room.names());
-}
-
-#[test]
-fn a_lock_that_nobody_holds_is_told() {
-    let room = Room::new();
-    room.write("1", &piece(7, 0, b"ABCD"));
-    room.write(".a.record.lock", b"");
-    let ran = room.run(&["take", "a.record", "1", "--length", "20"]);
-    assert_eq!(ran.status, 1);
-    assert!(ran.errors.contains("another run has it; if none does, remove .a.record.lock"), "{ran:?}");
-    assert_eq!(room.read("a.record"), None);
-}
-
-#[test]
-fn a_link_is_followed_and_permissions_are_kept() {
-    let room = Room::new();
-    room.write("1", &piece(7, 0, b"ABCD"));
-    room.write("2", &piece(7, 4, b"EFGH"));
-    let lines = "thoweldeck take a.record 1 --length 20 && chmod 600 a.record && ln -s a.record link.record \
-                 && thoweldeck take link.record 2 && test -L link.record && stat -c %a a.record";
-    let ran = room.shell(lines);
-    assert!(ran.status == 0 && ran.text.ends_with("\n600\n"), "{ran:?}");
-    assert_eq!(room.record("a.record").held(), 8);
-    // C is A by another path
-    let ran = room.run(&["join", "a.record", "a.record", "-o", "./a.record"]);
-    assert_eq!(ran.status, 0, "{ran:?}");
-    assert_eq!(room.names(), ["1", "2", "a.record", "link.record"]);
-}
-
-#[test]
 fn frames_that_are_no_pieces_are_told_as_what_they_are() {
     let room = Room::new();
     stations(&room);
