@@ -31,7 +31,11 @@ pub struct Address {
 }
 
 impl Address {
-    /// The address of a callsign, without its padding, and the number of an SSID. Refuses 2.
+    /// The address of a callsign, without its padding, and the number of an SSID.
+    ///
+    /// # Errors
+    ///
+    /// Refuses 2: it is malformed.
     pub fn new(callsign: &str, ssid: u8) -> Result<Address, Reason> {
         let given = callsign.as_bytes();
         // a space at the end would be padding: each address is made from one callsign
@@ -47,17 +51,20 @@ impl Address {
     }
 
     /// The callsign, without its padding.
+    #[must_use]
     pub fn callsign(&self) -> &str {
         std::str::from_utf8(&self.characters).expect("characters of A-Z and 0-9").trim_end()
     }
 
     /// The number of the SSID, 0 to 15.
+    #[must_use]
     pub fn ssid(&self) -> u8 {
         self.ssid
     }
 
     /// The address as the number that [`boundary`](crate::boundary) takes: six characters, the SSID and a zero, least
     /// significant byte first.
+    #[must_use]
     pub fn to_number(self) -> u64 {
         let [a, b, c, d, e, f] = self.characters;
         u64::from_le_bytes([a, b, c, d, e, f, self.ssid, 0])
@@ -79,7 +86,11 @@ impl fmt::Display for Address {
 impl FromStr for Address {
     type Err = Reason;
 
-    /// Reads `VA3SFL-0`, or `VA3SFL`, which has the SSID 0. Refuses 2.
+    /// Reads `VA3SFL-0`, or `VA3SFL`, which has the SSID 0.
+    ///
+    /// # Errors
+    ///
+    /// Refuses 2: it is malformed.
     fn from_str(text: &str) -> Result<Address, Reason> {
         match text.split_once('-') {
             None => Address::new(text, 0),

@@ -151,13 +151,20 @@ extern "C" {
 // Rust's borrows make sure of; and they keep no pointer, do not unwind, and return a bool as 0 or 1. That the
 // declarations are those of the library is compared by `tests/declarations.rs`.
 
-/// Opens a reception: clears ceil(length/8) bytes of the map and length bytes of the buffer. Refuses 7, 12.
+/// Opens a reception: clears ceil(length/8) bytes of the map and length bytes of the buffer.
+///
+/// # Errors
+///
+/// Refuses 7, 12.
 pub fn open(length: u32, map: &mut [u8], buffer: &mut [u8]) -> Result<(), Reason> {
     answer(unsafe { station_open(length, map.as_mut_ptr(), map.len(), buffer.as_mut_ptr(), buffer.len()) })
 }
 
-/// Takes a frame into a reception, and tells how many positions are newly held. Refuses as [`piece`] does,
-/// then 7, 12, 9, 10, 11.
+/// Takes a frame into a reception, and tells how many positions are newly held.
+///
+/// # Errors
+///
+/// Refuses as [`piece`] does, then 7, 12, 9, 10, 11.
 pub fn take(
     number: u32,
     length: u32,
@@ -194,7 +201,11 @@ pub struct Second<'a> {
     pub buffer: &'a [u8],
 }
 
-/// Joins a second reception into a first, and tells how many positions are newly held. Refuses 7, 12, 9, 11.
+/// Joins a second reception into a first, and tells how many positions are newly held.
+///
+/// # Errors
+///
+/// Refuses 7, 12, 9, 11.
 pub fn join(
     number: u32,
     length: u32,
@@ -222,12 +233,20 @@ pub fn join(
     })
 }
 
-/// Tells start and size of the first hole that starts at a place or later. Refuses 7, 12, 15.
+/// Tells start and size of the first hole that starts at a place or later.
+///
+/// # Errors
+///
+/// Refuses 7, 12, 15.
 pub fn list(length: u32, map: &[u8], place: u32, start: &mut u32, size: &mut u32) -> Result<(), Reason> {
     answer(unsafe { station_list(length, map.as_ptr(), map.len(), place, start, size) })
 }
 
-/// Writes a reception as a record into the first bytes of a target, and tells how many they are. Refuses 7, 12.
+/// Writes a reception as a record into the first bytes of a target, and tells how many they are.
+///
+/// # Errors
+///
+/// Refuses 7, 12.
 pub fn save(
     number: u32,
     length: u32,
@@ -251,7 +270,11 @@ pub fn save(
     })
 }
 
-/// Loads a record into a map and a buffer, and tells the file's number and length. Refuses 13, 12.
+/// Loads a record into a map and a buffer, and tells the file's number and length.
+///
+/// # Errors
+///
+/// Refuses 13, 12.
 pub fn load(saved: &[u8], map: &mut [u8], buffer: &mut [u8], number: &mut u32, length: &mut u32) -> Result<(), Reason> {
     answer(unsafe {
         station_load(
@@ -286,7 +309,11 @@ pub struct PieceTold {
     pub size: usize,
 }
 
-/// Reads a frame as a file piece. Refuses 1, 2, 3, 4, 7, 1, 6, 5, 7.
+/// Reads a frame as a file piece.
+///
+/// # Errors
+///
+/// Refuses 1, 2, 3, 4, 7, 1, 6, 5, 7.
 pub fn piece(frame: &[u8], told: &mut PieceTold) -> Result<(), Reason> {
     answer(unsafe {
         station_piece(
@@ -318,8 +345,12 @@ pub struct Wanted<'a> {
     pub map: &'a [u8],
 }
 
-/// Writes a request for the holes from a place on, at most 49, into the first 23 + 5 × count bytes of a
-/// target, and tells their count and the end of the last. Refuses 2, 7, 12 (map), 15, 12 (target).
+/// Writes a request for the holes from a place on, at most 49, into the first 23 + 5 × count bytes of a target, and
+/// tells their count and the end of the last.
+///
+/// # Errors
+///
+/// Refuses 2, 7, 12 (map), 15, 12 (target).
 pub fn write_request(
     wanted: Wanted<'_>,
     place: u32,
@@ -344,7 +375,11 @@ pub fn write_request(
     })
 }
 
-/// Writes a request for the start of a file into the first 23 bytes of a target. Refuses 2, 12.
+/// Writes a request for the start of a file into the first 23 bytes of a target.
+///
+/// # Errors
+///
+/// Refuses 2, 12.
 pub fn write_start(destination: u64, source: u64, number: u32, target: &mut [u8]) -> Result<(), Reason> {
     answer(unsafe { station_write_start(destination, source, number, target.as_mut_ptr(), target.len()) })
 }
@@ -364,7 +399,11 @@ pub struct RequestTold {
     pub count: u32,
 }
 
-/// Reads a frame as a request. Refuses 1, 2, 3, 4, 7, 1, 5, 7, 10.
+/// Reads a frame as a request.
+///
+/// # Errors
+///
+/// Refuses 1, 2, 3, 4, 7, 1, 5, 7, 10.
 pub fn read_request(frame: &[u8], told: &mut RequestTold) -> Result<(), Reason> {
     answer(unsafe {
         station_read_request(
@@ -380,6 +419,9 @@ pub fn read_request(frame: &[u8], told: &mut RequestTold) -> Result<(), Reason> 
 }
 
 /// Tells start and size of the hole with an index, from 0, in a request frame; both 0 beyond its count.
+///
+/// # Errors
+///
 /// Refuses as [`read_request`] does.
 pub fn hole(frame: &[u8], index: u32, start: &mut u32, size: &mut u32) -> Result<(), Reason> {
     answer(unsafe { station_hole(frame.as_ptr(), frame.len(), index, start, size) })
@@ -437,7 +479,11 @@ pub struct HeaderTold {
     pub upload: u32,
 }
 
-/// Reads a frame as a directory entry, and the file header in it. Refuses 1, 2, 3, 4, 7, 1, 6, 5, 14, 8.
+/// Reads a frame as a directory entry, and the file header in it.
+///
+/// # Errors
+///
+/// Refuses 1, 2, 3, 4, 7, 1, 6, 5, 14, 8.
 pub fn entry(frame: &[u8], told: &mut EntryTold, header: &mut HeaderTold) -> Result<(), Reason> {
     answer(unsafe {
         station_entry(
@@ -468,8 +514,12 @@ pub fn entry(frame: &[u8], told: &mut EntryTold, header: &mut HeaderTold) -> Res
     })
 }
 
-/// Reads the file header that the bytes start with, of the file with the number, and tells how many bytes the header
-/// itself has. What follows it is not looked at. Refuses 8.
+/// Reads the file header that the bytes start with, of the file with the number, and tells how many bytes the
+/// header itself has. What follows it is not looked at.
+///
+/// # Errors
+///
+/// Refuses 8.
 pub fn header(bytes: &[u8], number: u32, length: &mut usize, told: &mut HeaderTold) -> Result<(), Reason> {
     answer(unsafe {
         station_header(
@@ -494,16 +544,19 @@ pub fn header(bytes: &[u8], number: u32, length: &mut usize, told: &mut HeaderTo
 }
 
 /// Whether a position is held: never at the length or beyond, nor where the map has no such position.
+#[must_use]
 pub fn is_held(length: u32, map: &[u8], position: u32) -> bool {
     unsafe { station_is_held(length, map.as_ptr(), map.len(), position) }
 }
 
 /// How many positions are held.
+#[must_use]
 pub fn count_held(length: u32, map: &[u8]) -> u32 {
     unsafe { station_count_held(length, map.as_ptr(), map.len()) }
 }
 
 /// The remainder of all bytes, which the two check bytes of a frame must be.
+#[must_use]
 pub fn remainder(bytes: &[u8]) -> u16 {
     unsafe { station_remainder(bytes.as_ptr(), bytes.len()) }
 }
@@ -512,6 +565,6 @@ pub fn remainder(bytes: &[u8]) -> u16 {
 fn answer(returned: u8) -> Result<(), Reason> {
     match returned {
         0 => Ok(()),
-        number => Err(Reason::from_number(number).expect("a function returns 0 or a reason of 1 to 15")),
+        number => Err(Reason::try_from(number).expect("a function returns 0 or a reason of 1 to 15")),
     }
 }

@@ -36,8 +36,11 @@ pub struct Piece<'a> {
 }
 
 impl<'a> Piece<'a> {
-    /// Reads a frame as a file piece. Refuses 1 (below 16 bytes), 2, 3, 4, 7 (over 255), 1 (information), 6, 5,
-    /// 7 (no data).
+    /// Reads a frame as a file piece.
+    ///
+    /// # Errors
+    ///
+    /// Refuses 1 (below 16 bytes), 2, 3, 4, 7 (over 255), 1 (information), 6, 5, 7 (no data).
     pub fn read(frame: &'a [u8]) -> Result<Piece<'a>, Reason> {
         let mut told = boundary::PieceTold::default();
         boundary::piece(frame, &mut told)?;
@@ -91,7 +94,11 @@ pub struct Entry<'a> {
 }
 
 impl<'a> Entry<'a> {
-    /// Reads a frame as a directory entry. Refuses 1 (below 16 bytes), 2, 3, 4, 7, 1 (information), 6, 5, 14, 8.
+    /// Reads a frame as a directory entry.
+    ///
+    /// # Errors
+    ///
+    /// Refuses 1 (below 16 bytes), 2, 3, 4, 7 (over 255), 1 (information), 6, 5, 14, 8.
     pub fn read(frame: &'a [u8]) -> Result<Entry<'a>, Reason> {
         let mut told = boundary::EntryTold::default();
         let mut header = boundary::HeaderTold::default();

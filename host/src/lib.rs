@@ -14,6 +14,9 @@
 //! - [`boundary`]: the proved functions themselves, on numbers and lent slices;
 //! - [`lock`]: a lock on an open file, for programs that share records.
 //!
+//! Where these pages say 01, they mean the customer's rules, which the library's definitions say line by line; 000 and 002 are
+//! excerpts of the thesis behind them (Laura Halliday, *Communications Infrastructure for the MOST Microsatellite Project*, 2000).
+//!
 //! Two stations that each missed a part of a file have it whole together:
 //!
 //! ```
@@ -71,6 +74,6 @@ mod request;
 pub use address::Address;
 pub use boundary::remainder;
 pub use frame::{Entry, Header, Piece};
-pub use reason::Reason;
+pub use reason::{NoReason, Reason};
 pub use reception::{Hole, Holes, Reception, LONGEST};
 pub use request::{Asks, Request, Requests};

@@ -68,24 +68,13 @@ impl Reason {
     ];
 
     /// The paper's number, 1 to 15.
+    #[must_use]
     pub fn number(self) -> u8 {
         self as u8
     }
 
-    /// The reason with a number, where the paper has one.
-    ///
-    /// ```
-    /// use thoweldeck::Reason;
-    ///
-    /// assert_eq!(Reason::from_number(6), Some(Reason::Check));
-    /// assert_eq!(Reason::from_number(0), None);
-    /// assert_eq!(Reason::from_number(16), None);
-    /// ```
-    pub fn from_number(number: u8) -> Option<Reason> {
-        Reason::ALL.into_iter().find(|reason| reason.number() == number)
-    }
-
-    /// The reason in a sentence, in the words of the course.
+    /// The reason in a sentence, in the words of the course, with every cause that its number has.
+    #[must_use]
     pub fn sentence(self) -> &'static str {
         match self {
             Reason::Short => "the frame has fewer than 16 bytes, or its information is too short (11 bytes for a piece, 19 for a directory entry, 7 for a request)",
@@ -114,3 +103,36 @@ impl fmt::Display for Reason {
 }
 
 impl Error for Reason {}
+
+impl TryFrom<u8> for Reason {
+    type Error = NoReason;
+
+    /// The reason with a number.
+    ///
+    /// # Errors
+    ///
+    /// [`NoReason`] for 0, which means accepted, and for a number above 15.
+    ///
+    /// ```
+    /// use thoweldeck::{NoReason, Reason};
+    ///
+    /// assert_eq!(Reason::try_from(6), Ok(Reason::Check));
+    /// assert_eq!(Reason::try_from(0), Err(NoReason(0)));
+    /// assert_eq!(Reason::try_from(16), Err(NoReason(16)));
+    /// ```
+    fn try_from(number: u8) -> Result<Reason, NoReason> {
+        Reason::ALL.into_iter().find(|reason| reason.number() == number).ok_or(NoReason(number))
+    }
+}
+
+/// A number that is none of a reason's.
+#[derive(Clone, Copy, Debug, PartialEq, Eq, Hash)]
+pub struct NoReason(pub u8);
+
+impl fmt::Display for NoReason {
+    fn fmt(&self, f: &mut fmt::Formatter<'_>) -> fmt::Result {
+        write!(f, "{} is the number of no reason: they are 1 to 15", self.0)
+    }
+}
+
+impl Error for NoReason {}

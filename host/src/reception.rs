@@ -1,5 +1,6 @@
 //! A reception of a file: what a station holds of it (01, "Reception" and "Record").
 use crate::{boundary, Address, Reason, Requests};
+use std::iter::FusedIterator;
 
 /// The longest file, in bytes.
 pub const LONGEST: u32 = 32_768;
@@ -42,7 +43,11 @@ pub struct Reception {
 }
 
 impl Reception {
-    /// A fresh reception of a file that holds nothing. Refuses 7: a length is 1 to 32,768.
+    /// A fresh reception of a file that holds nothing.
+    ///
+    /// # Errors
+    ///
+    /// Refuses 7: a length is 1 to 32,768.
     pub fn open(number: u32, length: u32) -> Result<Reception, Reason> {
         let size = length.min(LONGEST) as usize;
         let mut map = vec![0; map_size(size)];
@@ -52,27 +57,34 @@ impl Reception {
     }
 
     /// The file's number.
+    #[must_use]
     pub fn number(&self) -> u32 {
         self.number
     }
 
     /// The file's length.
+    #[must_use]
     pub fn length(&self) -> u32 {
         self.length
     }
 
     /// The map: position p is bit p mod 8, counted from the low end, of byte p/8. A set bit means **held**.
+    #[must_use]
     pub fn map(&self) -> &[u8] {
         &self.map
     }
 
     /// The file's bytes where they are held, and zero elsewhere.
+    #[must_use]
     pub fn buffer(&self) -> &[u8] {
         &self.buffer
     }
 
-    /// Takes a frame in, whatever it is, and answers how many positions are newly held: 0 for a repeat. Refuses
-    /// as [`Piece::read`](crate::Piece::read) does, then 9 (another file), 10 (beyond the length), 11 (a held
+    /// Takes a frame in, whatever it is, and answers how many positions are newly held: 0 for a repeat.
+    ///
+    /// # Errors
+    ///
+    /// Refuses as [`Piece::read`](crate::Piece::read) does, then 9 (another file), 10 (beyond the length), 11 (a held
     /// byte differs); then nothing has changed.
     pub fn take(&mut self, frame: &[u8]) -> Result<u32, Reason> {
         let mut new = 0;
@@ -81,8 +93,11 @@ impl Reception {
     }
 
     /// Takes in what another reception of the file holds, and answers how many positions are newly held. Then
-    /// this one is byte for byte what one station would hold after the frames of both. Refuses 9 (another
-    /// number or length), 11 (a byte that both hold differs).
+    /// this one is byte for byte what one station would hold after the frames of both.
+    ///
+    /// # Errors
+    ///
+    /// Refuses 9 (another number or length), 11 (a byte that both hold differs); then nothing has changed.
     pub fn join(&mut self, other: &Reception) -> Result<u32, Reason> {
         let second =
             boundary::Second { number: other.number, length: other.length, map: &other.map, buffer: &other.buffer };
@@ -92,11 +107,13 @@ impl Reception {
     }
 
     /// Whether a position is held.
+    #[must_use]
     pub fn is_held(&self, position: u32) -> bool {
         boundary::is_held(self.length, &self.map, position)
     }
 
     /// How many positions are held.
+    #[must_use]
     pub fn held(&self) -> u32 {
         boundary::count_held(self.length, &self.map)
     }
@@ -107,6 +124,7 @@ impl Reception {
     }
 
     /// The whole file, where no hole is left.
+    #[must_use]
     pub fn file(&self) -> Option<&[u8]> {
         match self.holes().next() {
             None => Some(&self.buffer),
@@ -127,6 +145,7 @@ impl Reception {
     }
 
     /// The reception as a record, of 20 + ceil(L/8) + L bytes.
+    #[must_use]
     pub fn save(&self) -> Vec<u8> {
         let mut record = vec![0; 20 + self.map.len() + self.buffer.len()];
         let mut size = 0;
@@ -136,7 +155,11 @@ impl Reception {
         record
     }
 
-    /// The reception that a record keeps. Refuses 13: everything that is not exactly a record.
+    /// The reception that a record keeps.
+    ///
+    /// # Errors
+    ///
+    /// Refuses 13: everything that is not exactly a record.
     pub fn load(record: &[u8]) -> Result<Reception, Reason> {
         let mut map = vec![0; map_size(LONGEST as usize)];
         let mut buffer = vec![0; LONGEST as usize];
@@ -164,6 +187,7 @@ pub struct Hole {
 
 impl Hole {
     /// The first position behind it. (A hole of a file ends by 32,768; one made up may not.)
+    #[must_use]
     pub fn end(self) -> u32 {
         self.start.saturating_add(self.length)
     }
@@ -171,6 +195,7 @@ impl Hole {
 
 /// The holes of a reception, ascending: see [`Reception::holes`].
 #[derive(Clone, Debug)]
+#[must_use]
 pub struct Holes<'a> {
     length: u32,
     map: &'a [u8],
@@ -188,3 +213,6 @@ impl Iterator for Holes<'_> {
         Some(hole)
     }
 }
+
+// behind the last hole there is none at any later place
+impl FusedIterator for Holes<'_> {}

@@ -1,5 +1,6 @@
 //! Requests that a station sends, for holes or for the start of a file (01, "Fill request").
 use crate::{boundary, Address, Hole, Reason};
+use std::iter::FusedIterator;
 
 /// The bytes of a frame before its first hole: both addresses, control, protocol, and the request's own head.
 const HEAD: usize = 23;
@@ -22,6 +23,7 @@ const MOST: usize = 49;
 /// # Ok::<(), Reason>(())
 /// ```
 #[derive(Clone, Debug)]
+#[must_use]
 pub struct Requests<'a> {
     wanted: boundary::Wanted<'a>,
     place: u32,
@@ -46,6 +48,9 @@ impl Iterator for Requests<'_> {
     }
 }
 
+// behind the last hole there is none to ask for at any later place
+impl FusedIterator for Requests<'_> {}
+
 /// What a request asks for.
 #[derive(Clone, Debug, PartialEq, Eq)]
 pub enum Asks {
@@ -69,8 +74,11 @@ pub struct Request {
 }
 
 impl Request {
-    /// Reads a frame as a request. Refuses 1 (below 16 bytes), 2, 3, 4, 7 (over 255), 1 (information), 5, 7 (block
-    /// size, count or odd bytes), 10.
+    /// Reads a frame as a request.
+    ///
+    /// # Errors
+    ///
+    /// Refuses 1 (below 16 bytes), 2, 3, 4, 7 (over 255), 1 (information), 5, 7 (block size, count or odd bytes), 10.
     pub fn read(frame: &[u8]) -> Result<Request, Reason> {
         let mut told = boundary::RequestTold::default();
         boundary::read_request(frame, &mut told)?;
@@ -97,6 +105,7 @@ impl Request {
     /// assert_eq!(Request::read(&frame)?.asks, Asks::Start);
     /// # Ok::<(), Reason>(())
     /// ```
+    #[must_use]
     pub fn start(destination: Address, source: Address, number: u32) -> Vec<u8> {
         let mut frame = vec![0; HEAD];
         boundary::write_start(destination.to_number(), source.to_number(), number, &mut frame)
