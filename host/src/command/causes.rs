@@ -1,4 +1,6 @@
 //! Why something is refused: the reason that the library gave, and in words the cause of it that holds.
+use super::bytes::counted;
+use super::explain::{faults, Fault, Kind};
 use std::fmt;
 use thoweldeck::Reason;
 
@@ -21,5 +23,59 @@ impl From<Reason> for Cause {
 impl fmt::Display for Cause {
     fn fmt(&self, f: &mut fmt::Formatter<'_>) -> fmt::Result {
         write!(f, "reason {}: {}", self.reason.number(), self.words)
+    }
+}
+
+impl Cause {
+    /// The cause of a frame that is refused as a kind.
+    pub fn of_frame(kind: Kind, frame: &[u8], reason: Reason) -> Cause {
+        Cause::of_faults(reason, &faults::of(kind, frame, reason))
+    }
+
+    /// The cause of bytes that are no record.
+    pub fn of_record(bytes: &[u8]) -> Cause {
+        Cause::of_frame(Kind::Record, bytes, Reason::Record)
+    }
+
+    /// The cause of a length that no reception has.
+    pub fn of_length(length: u32) -> Cause {
+        let words = format!("the file's length is {length}, and must be 1 to 32,768");
+        Cause { reason: Reason::Size, words }
+    }
+
+    /// The cause that a refusal's faults tell: the first of them, and how many more there are.
+    pub fn of_faults(reason: Reason, faults: &[Fault]) -> Cause {
+        match faults {
+            [] => Cause::from(reason),
+            [fault] => Cause { reason, words: fault.sentence.clone() },
+            [fault, others @ ..] => {
+                Cause { reason, words: format!("{} (and {})", fault.sentence, counted(others.len(), "more fault")) }
+            }
+        }
+    }
+}
+
+#[cfg(test)]
+mod tests {
+    use super::*;
+
+    #[test]
+    fn a_length_that_no_file_has_is_told() {
+        let told = Cause::of_length(40_000).to_string();
+        assert_eq!(told, "reason 7: the file's length is 40000, and must be 1 to 32,768");
+    }
+
+    #[test]
+    fn the_first_fault_is_told_and_the_others_counted() {
+        let frame = b"\xA2\xA6\xA9\x40\x40\x40\x63\xAA\x9E\xA6\x82\xA8\x6A\x77\x03\xBB";
+        let told = Cause::of_frame(Kind::Piece, frame, Reason::Address).to_string();
+        assert_eq!(
+            told,
+            "reason 2: the destination is malformed: A9 at place 2 has its low bit set (and 1 more fault)"
+        );
+        let short = Cause::of_frame(Kind::Entry, &frame[..15], Reason::Short).to_string();
+        assert_eq!(short, "reason 1: the frame has 15 bytes, and 16 is the least");
+        // where no fault is found, the reason has its own sentence
+        assert_eq!(Cause::of_faults(Reason::Space, &[]), Cause::from(Reason::Space));
     }
 }

@@ -46,7 +46,7 @@ impl Source {
     /// The reception in a record. Refuses 13.
     pub fn record(&self) -> Result<Reception, Failure> {
         let bytes = self.read()?;
-        Reception::load(&bytes).map_err(|reason| Failure::Refused(self.to_string(), Cause::from(reason)))
+        Reception::load(&bytes).map_err(|_| Failure::Refused(self.to_string(), Cause::of_record(&bytes)))
     }
 }
 

@@ -2,8 +2,6 @@
 mod bytes;
 mod causes;
 mod explain;
-mod faults;
-mod fields;
 mod files;
 mod help;
 mod holes;

@@ -1,0 +1,204 @@
+//! `thoweldeck explain FILE`: a frame or a record field by field, a frame's check worked out, and the reason where it is
+//! refused.
+mod accepted;
+mod addresses;
+pub mod faults;
+mod fields;
+mod frames;
+mod items;
+mod records;
+mod requests;
+mod table;
+
+pub use faults::Fault;
+pub use fields::Kind;
+
+use super::causes::Cause;
+use super::files::Source;
+use super::input::{self, Frames};
+use super::names::escaped;
+use super::words::Words;
+use super::{bytes, End, Ended, Failure, Out};
+use thoweldeck::{remainder, Piece, Request};
+
+// What is asked about an input: a kind that it is read as, and the steps of the check.
+struct Asked {
+    kind: Option<Kind>,
+    steps: bool,
+}
+
+/// `thoweldeck explain`.
+pub fn run(words: Words, out: &mut Out<'_>) -> End {
+    let [path] = words.exactly(["a frame"])?;
+    let asked = Asked { kind: kind(&words)?, steps: words.has("--steps") };
+    let source = Source::of(&path);
+    let read = input::frames(&source.read()?).map_err(|strange| Failure::Trouble(format!("{source}: {strange}")))?;
+    all(&source, &read, &asked, out)
+}
+
+// The kind that the words name.
+fn kind(words: &Words) -> Result<Option<Kind>, Failure> {
+    match words.text("--as") {
+        Err(_) => Ok(None),
+        Ok(name) => Kind::named(&name).map(Some).ok_or_else(|| {
+            Failure::Trouble(format!("`--as {}` is none of piece, entry, request and record", escaped(&name)))
+        }),
+    }
+}
+
+// Each frame of an input, with an empty line between two.
+fn all(source: &Source, read: &Frames, asked: &Asked, out: &mut Out<'_>) -> End {
+    if read.frames.is_empty() {
+        return Err(Failure::Trouble(format!("{source}: has no frame in it")));
+    }
+    let mut ended = Ended::Well;
+    for (index, heard) in read.frames.iter().enumerate() {
+        let name = heard.line.map_or(source.to_string(), |line| format!("{source} line {line}"));
+        let kind = asked.kind.unwrap_or_else(|| kind_of(&heard.bytes));
+        if index > 0 {
+            out.line("");
+        }
+        let size = bytes::counted(heard.bytes.len(), "byte");
+        out.line(format!("{name}: {size} {}, read as {}", read.form.name(), kind.name()));
+        out.line("");
+        ended = ended.max(explained(kind, &heard.bytes, asked, out));
+    }
+    Ok(ended)
+}
+
+// A frame or a record field by field, and whether it is accepted.
+fn explained(kind: Kind, bytes: &[u8], asked: &Asked, out: &mut Out<'_>) -> Ended {
+    let said = accepted::said(kind, bytes);
+    let faults = match said {
+        Ok(_) => Vec::new(),
+        Err(reason) => faults::of(kind, bytes, reason),
+    };
+    table::say(&fields::of(kind, bytes), said.as_ref().err().copied(), &faults, out);
+    if asked.steps {
+        steps(kind, bytes, out);
+    }
+    match said {
+        Ok(line) => {
+            out.line(format!("\naccepted: {line}"));
+            Ended::Well
+        }
+        Err(reason) => {
+            out.line(format!("\nrefused, {}", Cause::of_faults(reason, &faults)));
+            Ended::Partly
+        }
+    }
+}
+
+// What bytes are most likely meant to be. Pieces and requests share a protocol, and no frame is accepted as both.
+fn kind_of(bytes: &[u8]) -> Kind {
+    let flags = bytes.get(16).copied().unwrap_or(0);
+    if bytes.starts_with(&records::START) {
+        Kind::Record
+    } else if bytes.get(15) == Some(&0xBD) {
+        Kind::Entry
+    } else if Request::read(bytes).is_ok() || (Piece::read(bytes).is_err() && (flags == 0x10 || flags == 0x11)) {
+        Kind::Request
+    } else {
+        Kind::Piece
+    }
+}
+
+// The check byte by byte: the remainder of all information up to each.
+fn steps(kind: Kind, frame: &[u8], out: &mut Out<'_>) {
+    let information = match kind {
+        Kind::Piece | Kind::Entry => frame.get(16..frame.len().saturating_sub(2)).unwrap_or(&[]),
+        Kind::Request | Kind::Record => return,
+    };
+    out.line("\nplace  byte  remainder of the information up to here");
+    // an information of more than 255 bytes is refused before its check is looked at
+    for (index, byte) in information.iter().enumerate().take(255) {
+        let remainder = remainder(&information[..=index]).to_be_bytes();
+        out.line(format!("{:5}  {byte:02X}    {}", 16 + index, bytes::pairs(&remainder)));
+    }
+}
+
+#[cfg(test)]
+mod tests {
+    use super::*;
+    use crate::command::input::{Form, Heard};
+    use thoweldeck::Reception;
+
+    const PIECE: &[u8] = include_bytes!(concat!(env!("CARGO_MANIFEST_DIR"), "/samples/survey/first/01.frame"));
+    const ENTRY: &[u8] = include_bytes!(concat!(env!("CARGO_MANIFEST_DIR"), "/samples/survey/entry.frame"));
+
+    // What is said about the frames of an input.
+    fn text(frames: Vec<Heard>, asked: &Asked) -> (End, String) {
+        let mut text = Vec::new();
+        let read = Frames { form: Form::Raw, frames };
+        let mut out = Out::to(&mut text);
+        let end = all(&Source::Standard, &read, asked, &mut out);
+        out.end().expect("a list takes all");
+        (end, String::from_utf8(text).expect("a text"))
+    }
+
+    #[test]
+    fn several_frames_are_explained_one_after_the_other() {
+        let heard = |bytes: &[u8], line: usize| Heard { bytes: bytes.to_vec(), line: Some(line) };
+        let asked = Asked { kind: None, steps: false };
+        let (end, text) = text(vec![heard(ENTRY, 1), heard(&PIECE[..20], 4)], &asked);
+        assert_eq!(end.expect("it is explained"), Ended::Partly);
+        assert!(
+            text.starts_with("standard input line 1: 115 bytes raw, read as a directory entry\n\nplace "),
+            "{text}"
+        );
+        let between = "\n\naccepted: file 1201, `SURVEY`, has 2358 bytes\n\n\
+                       standard input line 4: 20 bytes raw, read as a file piece\n\nplace ";
+        assert!(text.contains(between), "{text}");
+    }
+
+    #[test]
+    fn no_frame_at_all_is_told() {
+        let (end, text) = text(Vec::new(), &Asked { kind: None, steps: false });
+        assert_eq!(end.expect_err("there is nothing to explain").to_string(), "standard input: has no frame in it");
+        assert_eq!(text, "");
+    }
+
+    // The sum of the bytes that a table shows, and of those that it tells to be hidden.
+    fn bytes_told(table: &str) -> usize {
+        let rows = table.lines().skip_while(|line| !line.starts_with("place ")).skip(1);
+        let rows = rows.take_while(|line| !line.is_empty()).filter(|line| !line.starts_with("       "));
+        let told = |row: &str| match row[7..].strip_prefix("and ") {
+            Some(hidden) => hidden.split(' ').next().and_then(|count| count.parse().ok()).expect("a count"),
+            None => row.get(7..30).unwrap_or(&row[7..]).split_whitespace().count(),
+        };
+        rows.map(told).sum()
+    }
+
+    #[test]
+    fn anything_is_explained() {
+        let mut state = 1u64;
+        let mut next = move || {
+            state = state.wrapping_mul(6_364_136_223_846_793_005).wrapping_add(1_442_695_040_888_963_407);
+            (state >> 33) as usize
+        };
+        let mut reception = Reception::open(1201, 2358).expect("a length");
+        reception.take(PIECE).expect("a sample");
+        let bases = [ENTRY.to_vec(), PIECE.to_vec(), reception.save(), Vec::new()];
+        for round in 0..600 {
+            let mut bytes = bases[round % 4].clone();
+            for _ in 0..next() % 4 {
+                let place = next() % (bytes.len() + 1);
+                bytes.insert(place, next() as u8);
+            }
+            if next() % 2 == 0 {
+                bytes.truncate(next() % (bytes.len() + 40));
+            }
+            bytes.extend((0..next() % 3 * 150).map(|place| place as u8 ^ next() as u8));
+            let kind =
+                [None, Some(Kind::Piece), Some(Kind::Entry), Some(Kind::Request), Some(Kind::Record)][next() % 5];
+            let asked = Asked { kind, steps: round % 7 == 0 };
+            let (end, text) = text(vec![Heard { bytes: bytes.clone(), line: None }], &asked);
+            let accepted = text.contains("\naccepted: ");
+            assert_eq!(end.expect("it is explained"), if accepted { Ended::Well } else { Ended::Partly });
+            assert_ne!(accepted, text.contains("\nrefused, reason "), "{kind:?} {bytes:02X?}");
+            // every byte is shown, or told to be hidden; what is refused has its place or a word behind the table
+            assert_eq!(bytes_told(&text), bytes.len(), "{kind:?} {bytes:02X?}\n{text}");
+            assert_eq!(accepted, !text.contains("<-- reason "), "{kind:?} {bytes:02X?}\n{text}");
+        }
+    }
+}

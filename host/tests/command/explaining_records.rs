@@ -1,0 +1,108 @@
+//! `explain` of a record: every field, and every fault at its place.
+use super::room::Room;
+use thoweldeck::Reception;
+
+// The example of the rules: file 7, 20 bytes, of which 0 to 3 and 8 to 9 are held.
+const EXAMPLE: &[u8; 43] = b"\x01\x04\0\x07\0\0\0\x02\x04\0\x14\0\0\0\x03\x03\0\x0F\x03\0\x04\x14\0\
+    ABCD\0\0\0\0EF\0\0\0\0\0\0\0\0\0\0";
+
+#[test]
+fn a_record_is_explained_field_by_field() {
+    let room = Room::new();
+    room.write("a.record", EXAMPLE);
+    let ran = room.run(&["explain", "a.record"]);
+    assert_eq!(
+        (ran.status, ran.text.as_str()),
+        (
+            0,
+            "\
+a.record: 43 bytes raw, read as a record
+
+place  bytes                    field         meaning
+    0  01                       tag           the file's number follows
+    1  04 00                    data length   4 bytes
+    3  07 00 00 00              number        file 7
+    7  02                       tag           the file's length follows
+    8  04 00                    data length   4 bytes
+   10  14 00 00 00              length        20 bytes
+   14  03                       tag           the map follows
+   15  03 00                    data length   3 bytes
+   17  0F 03 00                 map           a bit for each position, from the low end on: 6 of 20 held
+   20  04                       tag           the buffer follows
+   21  14 00                    data length   20 bytes
+   23  41 42 43 44 00 00 00 00  buffer        |ABCD....| positions 0 to 19, and 00 where not held
+   31  45 46 00 00 00 00 00 00                |EF......|
+   39  00 00 00 00                            |....|
+
+accepted: file 7, 6 of 20 bytes held, 2 holes
+"
+        )
+    );
+    assert_eq!(room.run(&["explain", "a.record", "--as", "record", "--steps"]).text, ran.text);
+}
+
+// Checks that a record is refused for a cause, and marked once: in a line that begins so, with these words.
+fn refused(room: &Room, record: &[u8], row: &str, mark: &str, cause: &str) {
+    room.write("a.record", record);
+    let ran = room.run(&["explain", "a.record"]);
+    assert_eq!((ran.status, ran.errors.as_str()), (1, ""), "{ran:?}");
+    let marked: Vec<&str> = ran.text.lines().filter(|line| line.contains("<--")).collect();
+    assert!(marked.len() == 1 && marked[0].starts_with(row), "{}", ran.text);
+    assert!(marked[0].ends_with(&format!("<-- reason 13: {mark}")), "{}", ran.text);
+    assert!(ran.text.ends_with(&format!("\n\nrefused, reason 13: {cause}\n")), "{}", ran.text);
+    // the other parts of the command tell the same cause
+    let ran = room.run(&["holes", "a.record"]);
+    assert_eq!((ran.status, ran.errors), (1, format!("thoweldeck: a.record: refused, reason 13: {cause}\n")));
+}
+
+#[test]
+fn a_refused_record_is_marked_where_it_is_at_fault() {
+    let room = Room::new();
+    let with = |place: usize, byte: u8, row: &str, mark: &str, cause: &str| {
+        let mut record = EXAMPLE.to_vec();
+        record[place] = byte;
+        refused(&room, &record, row, mark, cause);
+    };
+    with(14, 4, "   14  04 ", "not 03", "the tag at place 14 is 04, and must be 03, of the map");
+    with(15, 4, "   15  04 00 ", "not 3", "the data length of the map is 4, and must be 3 (place 15)");
+    let length = "the file's length is 32788, and must be 1 to 32,768 (place 10)";
+    with(11, 0x80, "   10  14 80 00 00 ", "not 1 to 32,768", length);
+    let spare = "bit 4 of 10 at place 19 is a spare bit, behind position 19, and set";
+    with(19, 0x10, "   17  0F 03 10 ", spare, spare);
+    let unheld = "position 12 is not held, and its byte is 45, not 00 (place 35)";
+    with(35, 0x45, "   31  45 46 00 00 45 ", unheld, unheld);
+    let inside = "it is cut off at place 30, inside the buffer, with 13 bytes missing";
+    let mark = "cut off at place 30, with 13 bytes missing";
+    refused(&room, &EXAMPLE[..30], "   23  41 42 43 44 00 00 00  ", mark, inside);
+    let before = "it is cut off at place 20, before tag 04";
+    refused(&room, &EXAMPLE[..20], "       <-- ", before, before);
+    let behind = "nothing may follow the buffer, and at place 43 there is more";
+    refused(&room, &[&EXAMPLE[..], b"\n"].concat(), "   43  0A ", "nothing may follow the buffer", behind);
+}
+
+#[test]
+fn anything_is_explained_as_a_record() {
+    let room = Room::new();
+    room.write("frame", b"\x02\x04\0");
+    let ran = room.run(&["explain", "frame", "--as", "record"]);
+    assert!(ran.status == 1 && ran.text.starts_with("frame: 3 bytes raw, read as a record\n\nplace "), "{ran:?}");
+    let cause = "\nrefused, reason 13: the tag at place 0 is 02, and must be 01, of the file's number\n";
+    assert!(ran.text.ends_with(cause), "{ran:?}");
+    for name in ["samples/survey/entry.frame", "samples/survey/whole.file", "samples/figures/figure-3.3.hex"] {
+        let ran = room.run(&["explain", name, "--as", "record"]);
+        assert!(ran.status == 1 && ran.text.contains("\nrefused, reason 13: the tag at place 0 is A"), "{ran:?}");
+    }
+}
+
+#[test]
+fn a_fault_deep_in_a_record_is_not_hidden() {
+    let room = Room::new();
+    let mut record = Reception::open(7, 32_768).expect("a length").save();
+    assert_eq!(record.len(), 36_884);
+    record[36_000] = 0x58;
+    let cause = "position 31884 is not held, and its byte is 58, not 00 (place 36000)";
+    refused(&room, &record, "35996  00 00 00 00 58 00 00 00                |....X...| <-- ", cause, cause);
+    let text = room.run(&["explain", "a.record"]).text;
+    let hidden: Vec<&str> = text.lines().filter(|line| line.ends_with(" bytes more")).collect();
+    assert_eq!(hidden, ["  273  and 3840 bytes more", " 4372  and 31624 bytes more", "36004  and 880 bytes more"]);
+}
