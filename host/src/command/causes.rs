@@ -1,6 +1,6 @@
 //! Why something is refused: the reason that the library gave, and in words the cause of it that holds.
 use super::bytes::counted;
-use super::explain::{faults, Fault, Kind};
+use super::explain::{faults, looks, Fault, Kind};
 use std::fmt;
 use thoweldeck::Reason;
 
@@ -34,7 +34,14 @@ impl Cause {
 
     /// The cause of bytes that are no record.
     pub fn of_record(bytes: &[u8]) -> Cause {
-        Cause::of_frame(Kind::Record, bytes, Reason::Record)
+        let reason = Reason::Record;
+        let words = match (looks::accepted_as(bytes), looks::known(bytes)) {
+            _ if bytes.is_empty() => "this is empty, and no record".to_string(),
+            (Some(kind), _) => format!("this is {}, and no record", kind.name()),
+            (None, Some((what, _))) => format!("this looks like {what}, and not like a record"),
+            (None, None) => return Cause::of_frame(Kind::Record, bytes, reason),
+        };
+        Cause { reason, words }
     }
 
     /// The cause of a length that no reception has.
@@ -58,6 +65,34 @@ impl Cause {
 #[cfg(test)]
 mod tests {
     use super::*;
+    use thoweldeck::Reception;
+
+    // A reception of a file with some bytes held from a position on.
+    fn reception(number: u32, length: u32, from: usize, bytes: &[u8]) -> Reception {
+        let mut record = Reception::open(number, length).expect("a length").save();
+        let buffer = record.len() - length as usize;
+        for (position, byte) in (from..).zip(bytes) {
+            record[17 + position / 8] |= 1 << (position % 8);
+            record[buffer + position] = *byte;
+        }
+        Reception::load(&record).expect("a record")
+    }
+
+    #[test]
+    fn no_record_is_told_as_what_it_is() {
+        let sample = include_bytes!(concat!(env!("CARGO_MANIFEST_DIR"), "/samples/survey/entry.frame"));
+        let record = reception(7, 20, 4, b"ABCD").save();
+        for (bytes, words) in [
+            (&b""[..], "this is empty, and no record"),
+            (&sample[..], "this is a directory entry, and no record"),
+            (b"\x89PNG\r\n\x1A\n\0", "this looks like a picture, and not like a record"),
+            (b"what was heard", "this looks like a text, and not like a record"),
+            (&record[..15], "it is cut off at place 15, before the data length of the map"),
+            (b"\0\0", "the tag at place 0 is 00, and must be 01, of the file's number"),
+        ] {
+            assert_eq!(Cause::of_record(bytes), Cause { reason: Reason::Record, words: words.to_string() });
+        }
+    }
 
     #[test]
     fn a_length_that_no_file_has_is_told() {

@@ -269,6 +269,35 @@ fn a_refused_header_is_marked_where_it_is_at_fault() {
 }
 
 #[test]
+fn what_is_no_frame_is_told_as_what_it_looks_like() {
+    let room = Room::new();
+    room.write("picture", b"\x89PNG\r\n\x1A\n\0\0\0\rIHDR\0\0\0\x10");
+    room.write("empty", b"");
+    let frame = room.read("samples/survey/first/01.frame").expect("a sample");
+    room.write("information", &frame[16..]);
+    room.write("checked", &[&frame[..], b"\x12\x34"].concat());
+    let header = "this looks like a received file with its header, and not like a frame: a file is received in frames";
+    for (name, line) in [
+        ("picture", "this looks like a picture, and not like a frame"),
+        ("empty", "there is nothing in it: a frame has at least 16 bytes, and a record 22"),
+        ("samples/survey/whole.file", header),
+        ("information", "this looks like the information of a frame alone"),
+        ("checked", "without its last two bytes it is a file piece"),
+    ] {
+        let ran = room.run(&["explain", name]);
+        assert_eq!((ran.status, ran.errors.as_str()), (1, ""), "{name}");
+        assert!(ran.text.lines().nth(1).map_or(false, |second| second.starts_with(line)), "{name}: {}", ran.text);
+        assert!(ran.text.contains("\n\nplace  bytes ") && ran.text.contains("\n\nrefused, reason "), "{}", ran.text);
+        // what `--as` names is explained as that, without a guess
+        let ran = room.run(&["explain", name, "--as", "piece"]);
+        assert_eq!(ran.text.lines().nth(1), Some(""), "{name}: {}", ran.text);
+    }
+    let ran = room.run(&["explain", "samples"]);
+    assert_eq!((ran.status, ran.text.as_str()), (2, ""));
+    assert_eq!(ran.errors, "thoweldeck: samples: is a folder, and no frame: name a file in it\n");
+}
+
+#[test]
 fn a_long_input_is_not_shown_whole() {
     let room = Room::new();
     // as many holes, and as many items, as a hundred thousand bytes have

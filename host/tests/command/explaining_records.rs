@@ -17,6 +17,7 @@ fn a_record_is_explained_field_by_field() {
             0,
             "\
 a.record: 43 bytes raw, read as a record
+this is a record, and no frame: `thoweldeck holes` and `thoweldeck show` tell what it holds
 
 place  bytes                    field         meaning
     0  01                       tag           the file's number follows
@@ -38,7 +39,12 @@ accepted: file 7, 6 of 20 bytes held, 2 holes
 "
         )
     );
-    assert_eq!(room.run(&["explain", "a.record", "--as", "record", "--steps"]).text, ran.text);
+    // named as one, it is one without a guess
+    let named = room.run(&["explain", "a.record", "--as", "record", "--steps"]);
+    assert_eq!(
+        named.text,
+        ran.text.replacen(ran.text.lines().nth(1).expect("the guess"), "", 1).replacen("\n\n", "\n", 1)
+    );
 }
 
 // Checks that a record is refused for a cause, and marked once: in a line that begins so, with these words.

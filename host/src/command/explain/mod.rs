@@ -6,6 +6,7 @@ pub mod faults;
 mod fields;
 mod frames;
 mod items;
+pub mod looks;
 mod records;
 mod requests;
 mod table;
@@ -19,7 +20,7 @@ use super::input::{self, Frames};
 use super::names::escaped;
 use super::words::Words;
 use super::{bytes, End, Ended, Failure, Out};
-use thoweldeck::{remainder, Piece, Request};
+use thoweldeck::remainder;
 
 // What is asked about an input: a kind that it is read as, and the steps of the check.
 struct Asked {
@@ -32,6 +33,9 @@ pub fn run(words: Words, out: &mut Out<'_>) -> End {
     let [path] = words.exactly(["a frame"])?;
     let asked = Asked { kind: kind(&words)?, steps: words.has("--steps") };
     let source = Source::of(&path);
+    if source != Source::Standard && path.is_dir() {
+        return Err(Failure::Trouble(format!("{source}: is a folder, and no frame: name a file in it")));
+    }
     let read = input::frames(&source.read()?).map_err(|strange| Failure::Trouble(format!("{source}: {strange}")))?;
     all(&source, &read, &asked, out)
 }
@@ -54,12 +58,15 @@ fn all(source: &Source, read: &Frames, asked: &Asked, out: &mut Out<'_>) -> End 
     let mut ended = Ended::Well;
     for (index, heard) in read.frames.iter().enumerate() {
         let name = heard.line.map_or(source.to_string(), |line| format!("{source} line {line}"));
-        let kind = asked.kind.unwrap_or_else(|| kind_of(&heard.bytes));
+        let kind = asked.kind.unwrap_or_else(|| looks::kind(&heard.bytes));
         if index > 0 {
             out.line("");
         }
         let size = bytes::counted(heard.bytes.len(), "byte");
         out.line(format!("{name}: {size} {}, read as {}", read.form.name(), kind.name()));
+        if let (None, Some(line)) = (asked.kind, looks::line(&heard.bytes)) {
+            out.line(line);
+        }
         out.line("");
         ended = ended.max(explained(kind, &heard.bytes, asked, out));
     }
@@ -86,20 +93,6 @@ fn explained(kind: Kind, bytes: &[u8], asked: &Asked, out: &mut Out<'_>) -> Ende
             out.line(format!("\nrefused, {}", Cause::of_faults(reason, &faults)));
             Ended::Partly
         }
-    }
-}
-
-// What bytes are most likely meant to be. Pieces and requests share a protocol, and no frame is accepted as both.
-fn kind_of(bytes: &[u8]) -> Kind {
-    let flags = bytes.get(16).copied().unwrap_or(0);
-    if bytes.starts_with(&records::START) {
-        Kind::Record
-    } else if bytes.get(15) == Some(&0xBD) {
-        Kind::Entry
-    } else if Request::read(bytes).is_ok() || (Piece::read(bytes).is_err() && (flags == 0x10 || flags == 0x11)) {
-        Kind::Request
-    } else {
-        Kind::Piece
     }
 }
 
