@@ -1,8 +1,8 @@
 //! Why something is refused: the reason that the library gave, and in words the cause of it that holds.
 use super::bytes::counted;
-use super::explain::{faults, looks, Fault, Kind};
+use super::explain::{faults, looks, places, Fault, Kind};
 use std::fmt;
-use thoweldeck::Reason;
+use thoweldeck::{Reason, Reception};
 
 /// A refusal's reason and its cause.
 #[derive(Clone, Debug, PartialEq, Eq)]
@@ -32,6 +32,11 @@ impl Cause {
         Cause::of_faults(reason, &faults::of(kind, frame, reason))
     }
 
+    /// The cause of a frame that a reception refuses.
+    pub fn of_piece(frame: &[u8], reception: &Reception, reason: Reason) -> Cause {
+        Cause::of_faults(reason, &places::faults(frame, reception, reason))
+    }
+
     /// The cause of bytes that are no record.
     pub fn of_record(bytes: &[u8]) -> Cause {
         let reason = Reason::Record;
@@ -40,6 +45,22 @@ impl Cause {
             (Some(kind), _) => format!("this is {}, and no record", kind.name()),
             (None, Some((what, _))) => format!("this looks like {what}, and not like a record"),
             (None, None) => return Cause::of_frame(Kind::Record, bytes, reason),
+        };
+        Cause { reason, words }
+    }
+
+    /// The cause of two receptions that cannot be joined.
+    pub fn of_join(first: &Reception, second: &Reception, reason: Reason) -> Cause {
+        let length = |reception: &Reception| counted(reception.length() as usize, "byte");
+        let words = match reason {
+            Reason::OtherFile if first.number() != second.number() => {
+                format!("the first is of file {}, and the second of file {}", first.number(), second.number())
+            }
+            Reason::OtherFile => {
+                format!("the file has {} in the first, and {} in the second", length(first), length(second))
+            }
+            Reason::Differs => differing(first, second).unwrap_or_else(|| reason.sentence().to_string()),
+            _ => reason.sentence().to_string(),
         };
         Cause { reason, words }
     }
@@ -62,10 +83,19 @@ impl Cause {
     }
 }
 
+// The first position that both receptions hold with different bytes.
+fn differing(first: &Reception, second: &Reception) -> Option<String> {
+    let bytes = first.buffer().iter().zip(second.buffer());
+    let differs = |(position, (one, other)): &(u32, (&u8, &u8))| {
+        one != other && first.is_held(*position) && second.is_held(*position)
+    };
+    let (position, (one, other)) = (0..).zip(bytes).find(differs)?;
+    Some(format!("position {position} is held with {one:02X} in the first, and with {other:02X} in the second"))
+}
+
 #[cfg(test)]
 mod tests {
     use super::*;
-    use thoweldeck::Reception;
 
     // A reception of a file with some bytes held from a position on.
     fn reception(number: u32, length: u32, from: usize, bytes: &[u8]) -> Reception {
@@ -76,6 +106,22 @@ mod tests {
             record[buffer + position] = *byte;
         }
         Reception::load(&record).expect("a record")
+    }
+
+    #[test]
+    fn what_cannot_be_joined_is_told() {
+        let first = reception(7, 20, 4, b"ABCD");
+        for (second, words) in [
+            (reception(8, 21, 4, b"ABCD"), "reason 9: the first is of file 7, and the second of file 8"),
+            (reception(7, 1, 0, b""), "reason 9: the file has 20 bytes in the first, and 1 byte in the second"),
+            (
+                reception(7, 20, 2, b"XXABXX"),
+                "reason 11: position 6 is held with 43 in the first, and with 58 in the second",
+            ),
+        ] {
+            let reason = first.clone().join(&second).expect_err("a refusal");
+            assert_eq!(Cause::of_join(&first, &second, reason).to_string(), words);
+        }
     }
 
     #[test]

@@ -79,7 +79,7 @@ struct Part {
 }
 
 const PARTS: [Part; 7] = [
-    Part { name: "explain", run: explain::run, switches: &["--steps"], options: &["--as"] },
+    Part { name: "explain", run: explain::run, switches: &["--steps"], options: &["--as", "--record"] },
     Part { name: "take", run: take::run, switches: &[], options: &["--number", "--length"] },
     Part { name: "join", run: join::run, switches: &[], options: &["-o"] },
     Part { name: "holes", run: holes::run, switches: &[], options: &[] },

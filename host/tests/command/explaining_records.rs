@@ -1,6 +1,6 @@
-//! `explain` of a record: every field, and every fault at its place.
-use super::room::Room;
-use thoweldeck::Reception;
+//! `explain` of a record, and of a piece beside a record: every field, every fault at its place, and nothing changed.
+use super::room::{piece, Room};
+use thoweldeck::{Reason, Reception};
 
 // The example of the rules: file 7, 20 bytes, of which 0 to 3 and 8 to 9 are held.
 const EXAMPLE: &[u8; 43] = b"\x01\x04\0\x07\0\0\0\x02\x04\0\x14\0\0\0\x03\x03\0\x0F\x03\0\x04\x14\0\
@@ -111,4 +111,92 @@ fn a_fault_deep_in_a_record_is_not_hidden() {
     let text = room.run(&["explain", "a.record"]).text;
     let hidden: Vec<&str> = text.lines().filter(|line| line.ends_with(" bytes more")).collect();
     assert_eq!(hidden, ["  273  and 3840 bytes more", " 4372  and 31624 bytes more", "36004  and 880 bytes more"]);
+}
+
+#[test]
+fn a_piece_is_explained_beside_a_record() {
+    let room = Room::new();
+    room.write("a.record", EXAMPLE);
+    room.write("frame", &piece(7, 2, b"CD....EF.."));
+    let ran = room.run(&["explain", "frame", "--record", "a.record"]);
+    let end = "it agrees\n\n\
+               a.record: file 7, 6 of 20 bytes held, 2 holes\n\
+               the piece goes to positions 2 to 11: 6 new, 4 held already\n\
+               hole 1, positions 4 to 7: 4 of its 4 bytes\n\
+               hole 2, positions 10 to 19: 2 of its 10 bytes\n\n\
+               accepted: 10 bytes of file 7, positions 2 to 11: 6 new\n";
+    assert!(ran.status == 0 && ran.text.ends_with(end), "{}", ran.text);
+    room.write("frame", &piece(7, 8, b"EF"));
+    let ran = room.run(&["explain", "frame", "--record=a.record"]);
+    let end = "\nthe piece goes to positions 8 to 9: 0 new, 2 held already\n\n\
+               accepted: 2 bytes of file 7, positions 8 to 9: a repeat, nothing new\n";
+    assert!(ran.status == 0 && ran.text.ends_with(end), "{}", ran.text);
+    // what is no piece goes nowhere, and is accepted all the same
+    let ran = room.run(&["explain", "samples/survey/entry.frame", "--record", "a.record"]);
+    let line = "\nnothing goes there: this is a directory entry, and no piece\n\naccepted: file 1201, ";
+    assert!(ran.status == 0 && ran.text.contains(line), "{}", ran.text);
+    assert_eq!(room.read("a.record").as_deref(), Some(&EXAMPLE[..]));
+    assert_eq!(room.names(), ["a.record", "frame"]);
+}
+
+#[test]
+fn a_piece_that_a_record_refuses_is_marked_where_it_does_not_fit() {
+    let room = Room::new();
+    room.write("a.record", EXAMPLE);
+    let refused = |frame: &[u8], row: &str, mark: &str, cause: &str| {
+        room.write("frame", frame);
+        let ran = room.run(&["explain", "frame", "--record", "a.record"]);
+        assert_eq!((ran.status, ran.errors.as_str()), (1, ""), "{ran:?}");
+        let marked: Vec<&str> = ran.text.lines().filter(|line| line.contains("<--")).collect();
+        assert_eq!(marked, [format!("{row} <-- {mark}")], "{}", ran.text);
+        assert!(ran.text.ends_with(&format!("\n\nrefused, {cause}\n")), "{}", ran.text);
+        assert_eq!(room.read("a.record").as_deref(), Some(&EXAMPLE[..]));
+    };
+    let row = "   17  B2 04 00 00              number        file 1202";
+    let cause = "reason 9: it is a piece of file 1202, and the record is of file 7";
+    refused(&piece(1202, 0, b"ABCD"), row, "reason 9: the record is of file 7", cause);
+    let row = "   33  2E 2E 2E 2E 2E 2E 2E 2E                |........|";
+    let mark = "reason 10: the byte at place 37 goes to position 20, and the file ends at 20";
+    let cause = "reason 10: it goes to positions 8 to 23, and ends 4 bytes beyond the file of 20 bytes";
+    refused(&piece(7, 8, b"EF.............."), row, mark, cause);
+    let row = "   33  45 58                                  |EX|";
+    let mark = "reason 11: 58 at place 34 goes to position 9, where 46 is held";
+    let cause = "reason 11: position 9 is held with 46, and the piece has 58 there";
+    refused(&piece(7, 0, b"ABCD....EX"), row, mark, cause);
+    // the frame's own reason comes first
+    let mut damaged = piece(8, 18, b"....");
+    let [high, low] = [damaged[29], damaged[30]];
+    damaged[29..].fill(0);
+    let is = format!("the remainder of places 16 to 28 is {high:02X} {low:02X}: it differs");
+    let row = format!("   29  00 00                    check         {is}");
+    refused(&damaged, &row, "reason 6: not the remainder", &Reason::Check.to_string());
+}
+
+#[test]
+fn a_record_beside_a_frame_that_makes_no_sense_is_told() {
+    let room = Room::new();
+    room.write("a.record", EXAMPLE);
+    room.write("cut.record", &EXAMPLE[..30]);
+    room.write("frame", &piece(7, 0, b"ABCD"));
+    let entry = "samples/survey/entry.frame";
+    for (words, status, said) in [
+        (
+            &["explain", "frame", "--record", "cut.record"][..],
+            1,
+            "cut.record: refused, reason 13: it is cut off at place 30, inside the buffer, with 13 bytes missing",
+        ),
+        (
+            &["explain", "frame", "--record", entry],
+            1,
+            "samples/survey/entry.frame: refused, reason 13: this is a directory entry, and no record",
+        ),
+        (&["explain", "frame", "--record", "absent"], 2, "absent: cannot be read"),
+        (&["explain", "frame", "--record"], 2, "`--record` is to be followed by its value"),
+        (&["explain", "-", "--record", "-"], 2, "standard input cannot be both the frame and the record"),
+        (&["explain", "a.record", "--record", "a.record"], 2, "a.record: is read as a record, and `--record` is for"),
+    ] {
+        let ran = room.run(words);
+        assert_eq!((ran.status, ran.text.as_str()), (status, ""), "{words:?} {ran:?}");
+        assert!(ran.errors.starts_with(&format!("thoweldeck: {said}")), "{words:?} {ran:?}");
+    }
 }

@@ -39,3 +39,11 @@ fn request_said(request: &Request) -> String {
         }
     }
 }
+
+/// What a piece would bring to a reception, which stays as it is.
+pub fn taken(frame: &[u8], reception: &Reception) -> Result<String, Reason> {
+    let new = reception.clone().take(frame)?;
+    let piece = Piece::read(frame)?;
+    let brings = if new == 0 { "a repeat, nothing new".to_string() } else { format!("{new} new") };
+    Ok(format!("{}: {brings}", piece_said(&piece)))
+}

@@ -1,5 +1,5 @@
-//! `thoweldeck explain FILE`: a frame or a record field by field, a frame's check worked out, and the reason where it is
-//! refused.
+//! `thoweldeck explain FILE`: a frame or a record field by field, a frame's check worked out, where a piece goes in a
+//! record, and the reason where something is refused.
 mod accepted;
 mod addresses;
 pub mod faults;
@@ -7,6 +7,7 @@ mod fields;
 mod frames;
 mod items;
 pub mod looks;
+pub mod places;
 mod records;
 mod requests;
 mod table;
@@ -19,19 +20,21 @@ use super::files::Source;
 use super::input::{self, Frames};
 use super::names::escaped;
 use super::words::Words;
-use super::{bytes, End, Ended, Failure, Out};
-use thoweldeck::remainder;
+use super::{bytes, holes, End, Ended, Failure, Out};
+use std::path::Path;
+use thoweldeck::{remainder, Piece, Reception};
 
-// What is asked about an input: a kind that it is read as, and the steps of the check.
+// What is asked about an input: a kind that it is read as, the steps of the check, a record to hold its pieces against.
 struct Asked {
     kind: Option<Kind>,
     steps: bool,
+    record: Option<(Source, Reception)>,
 }
 
 /// `thoweldeck explain`.
 pub fn run(words: Words, out: &mut Out<'_>) -> End {
     let [path] = words.exactly(["a frame"])?;
-    let asked = Asked { kind: kind(&words)?, steps: words.has("--steps") };
+    let asked = Asked { kind: kind(&words)?, steps: words.has("--steps"), record: record(&words, &path)? };
     let source = Source::of(&path);
     if source != Source::Standard && path.is_dir() {
         return Err(Failure::Trouble(format!("{source}: is a folder, and no frame: name a file in it")));
@@ -50,6 +53,17 @@ fn kind(words: &Words) -> Result<Option<Kind>, Failure> {
     }
 }
 
+// The record that the words name. Refuses 13.
+fn record(words: &Words, path: &Path) -> Result<Option<(Source, Reception)>, Failure> {
+    match words.path("--record").map(|record| Source::of(&record)) {
+        Err(_) => Ok(None),
+        Ok(Source::Standard) if Source::of(path) == Source::Standard => {
+            Err(Failure::Trouble("standard input cannot be both the frame and the record".to_string()))
+        }
+        Ok(source) => source.record().map(|reception| Some((source, reception))),
+    }
+}
+
 // Each frame of an input, with an empty line between two.
 fn all(source: &Source, read: &Frames, asked: &Asked, out: &mut Out<'_>) -> End {
     if read.frames.is_empty() {
@@ -59,6 +73,10 @@ fn all(source: &Source, read: &Frames, asked: &Asked, out: &mut Out<'_>) -> End 
     for (index, heard) in read.frames.iter().enumerate() {
         let name = heard.line.map_or(source.to_string(), |line| format!("{source} line {line}"));
         let kind = asked.kind.unwrap_or_else(|| looks::kind(&heard.bytes));
+        if kind == Kind::Record && asked.record.is_some() {
+            let line = format!("{name}: is read as a record, and `--record` is for a frame; `join` joins two records");
+            return Err(Failure::Trouble(line));
+        }
         if index > 0 {
             out.line("");
         }
@@ -73,16 +91,26 @@ fn all(source: &Source, read: &Frames, asked: &Asked, out: &mut Out<'_>) -> End 
     Ok(ended)
 }
 
-// A frame or a record field by field, and whether it is accepted.
+// A frame or a record field by field, and whether it is accepted: by itself, or a piece by the record that it is held
+// against.
 fn explained(kind: Kind, bytes: &[u8], asked: &Asked, out: &mut Out<'_>) -> Ended {
-    let said = accepted::said(kind, bytes);
-    let faults = match said {
-        Ok(_) => Vec::new(),
-        Err(reason) => faults::of(kind, bytes, reason),
+    let reception = asked.record.as_ref().map(|(_, reception)| reception).filter(|_| kind == Kind::Piece);
+    let said = match reception {
+        Some(reception) => accepted::taken(bytes, reception),
+        None => accepted::said(kind, bytes),
+    };
+    let faults = match (&said, reception) {
+        (Ok(_), _) => Vec::new(),
+        (Err(reason), Some(reception)) => places::faults(bytes, reception, *reason),
+        (Err(reason), None) => faults::of(kind, bytes, *reason),
     };
     table::say(&fields::of(kind, bytes), said.as_ref().err().copied(), &faults, out);
     if asked.steps {
         steps(kind, bytes, out);
+    }
+    if let Some((source, reception)) = &asked.record {
+        out.line(format!("\n{source}: {}", holes::summary(reception)));
+        in_record(kind, bytes, reception, out);
     }
     match said {
         Ok(line) => {
@@ -93,6 +121,19 @@ fn explained(kind: Kind, bytes: &[u8], asked: &Asked, out: &mut Out<'_>) -> Ende
             out.line(format!("\nrefused, {}", Cause::of_faults(reason, &faults)));
             Ended::Partly
         }
+    }
+}
+
+// Where a piece goes in a record. What is damaged, or is no piece, goes nowhere.
+fn in_record(kind: Kind, frame: &[u8], reception: &Reception, out: &mut Out<'_>) {
+    match (kind, Piece::read(frame)) {
+        (Kind::Piece, Ok(piece)) => {
+            for line in places::lines(&piece, reception) {
+                out.line(line);
+            }
+        }
+        (Kind::Piece, Err(_)) => out.line("the frame is refused before the record is looked at"),
+        _ => out.line(format!("nothing goes there: this is {}, and no piece", kind.name())),
     }
 }
 
@@ -114,7 +155,6 @@ fn steps(kind: Kind, frame: &[u8], out: &mut Out<'_>) {
 mod tests {
     use super::*;
     use crate::command::input::{Form, Heard};
-    use thoweldeck::Reception;
 
     const PIECE: &[u8] = include_bytes!(concat!(env!("CARGO_MANIFEST_DIR"), "/samples/survey/first/01.frame"));
     const ENTRY: &[u8] = include_bytes!(concat!(env!("CARGO_MANIFEST_DIR"), "/samples/survey/entry.frame"));
@@ -132,7 +172,7 @@ mod tests {
     #[test]
     fn several_frames_are_explained_one_after_the_other() {
         let heard = |bytes: &[u8], line: usize| Heard { bytes: bytes.to_vec(), line: Some(line) };
-        let asked = Asked { kind: None, steps: false };
+        let asked = Asked { kind: None, steps: false, record: None };
         let (end, text) = text(vec![heard(ENTRY, 1), heard(&PIECE[..20], 4)], &asked);
         assert_eq!(end.expect("it is explained"), Ended::Partly);
         assert!(
@@ -146,7 +186,7 @@ mod tests {
 
     #[test]
     fn no_frame_at_all_is_told() {
-        let (end, text) = text(Vec::new(), &Asked { kind: None, steps: false });
+        let (end, text) = text(Vec::new(), &Asked { kind: None, steps: false, record: None });
         assert_eq!(end.expect_err("there is nothing to explain").to_string(), "standard input: has no frame in it");
         assert_eq!(text, "");
     }
@@ -184,7 +224,9 @@ mod tests {
             bytes.extend((0..next() % 3 * 150).map(|place| place as u8 ^ next() as u8));
             let kind =
                 [None, Some(Kind::Piece), Some(Kind::Entry), Some(Kind::Request), Some(Kind::Record)][next() % 5];
-            let asked = Asked { kind, steps: round % 7 == 0 };
+            let is_record = kind.unwrap_or_else(|| looks::kind(&bytes)) == Kind::Record;
+            let record = Some((Source::Standard, reception.clone())).filter(|_| !is_record && round % 2 == 0);
+            let asked = Asked { kind, steps: round % 7 == 0, record };
             let (end, text) = text(vec![Heard { bytes: bytes.clone(), line: None }], &asked);
             let accepted = text.contains("\naccepted: ");
             assert_eq!(end.expect("it is explained"), if accepted { Ended::Well } else { Ended::Partly });
