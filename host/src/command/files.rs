@@ -5,12 +5,12 @@ pub use super::writing::{write_another, Target};
 use super::Failure;
 use std::fmt;
 use std::fs::File;
-use std::io::{self, Read};
+use std::io::{self, ErrorKind, Read};
 use std::path::{Path, PathBuf};
 use thoweldeck::Reception;
 
-/// More bytes than a record has, or a text with every frame of a long pass in hexadecimal.
-pub const MOST: usize = 1 << 24;
+// More bytes than a record has, or a text with every frame of a long pass in hexadecimal.
+const MOST: usize = 1 << 24;
 
 /// Where something is read from.
 #[derive(Clone, Debug, PartialEq, Eq)]
@@ -31,16 +31,23 @@ impl Source {
         }
     }
 
-    /// All that is there, or of a longer one so many bytes that it is neither a record nor a text of frames.
-    pub fn read(&self) -> Result<Vec<u8>, Failure> {
+    /// All that is there. What is longer than any input is an error, and is not read to its end.
+    pub fn bytes(&self) -> io::Result<Vec<u8>> {
         let mut bytes = Vec::new();
         let most = MOST as u64 + 1;
         match self {
-            Source::File(path) => File::open(path).and_then(|file| file.take(most).read_to_end(&mut bytes)),
-            Source::Standard => io::stdin().lock().take(most).read_to_end(&mut bytes),
+            Source::File(path) => File::open(path)?.take(most).read_to_end(&mut bytes)?,
+            Source::Standard => io::stdin().lock().take(most).read_to_end(&mut bytes)?,
+        };
+        if bytes.len() > MOST {
+            return Err(io::Error::new(ErrorKind::InvalidData, "it is longer than 16 MiB"));
         }
-        .map_err(|error| Failure::Trouble(format!("{self}: cannot be read: {error}")))?;
         Ok(bytes)
+    }
+
+    /// The same, for a part of the command that can do nothing without it.
+    pub fn read(&self) -> Result<Vec<u8>, Failure> {
+        self.bytes().map_err(|error| Failure::Trouble(format!("{self}: cannot be read: {error}")))
     }
 
     /// The reception in a record. Refuses 13.

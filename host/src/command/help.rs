@@ -5,14 +5,15 @@ use std::ffi::OsString;
 use thoweldeck::Reason;
 
 /// What the command can do, in a line each.
-pub const SHORT: &str = "  thoweldeck explain FILE                        a frame, field by field
-  thoweldeck take RECORD FRAME...                frames into a record
-  thoweldeck join A B -o C                       two stations' records into one
+pub const SHORT: &str = "  thoweldeck explain INPUT                       a frame or a record, field by field
+  thoweldeck take RECORD INPUT...                frames into a record
+  thoweldeck join A B... -o C                    several stations' records into one
   thoweldeck holes RECORD                        what is missing
   thoweldeck request RECORD --from CALL --to CALL -o DIR
                                                  the frames that ask for it
   thoweldeck show RECORD                         the bytes that are held
   thoweldeck save RECORD -o FILE                 the file, once it is complete
+  thoweldeck list FOLDER                         the records of a folder
   thoweldeck --help                              the whole page
 ";
 
@@ -33,54 +34,58 @@ keeps what it has in a record, asks for what is missing, and joins its record wi
                held, not missing), and the bytes. A repeat changes nothing, so take what you hear.
   THE HOLE     A longest run of positions that are not held: where it starts, how many they are.
 
+An INPUT is a file, or `-` for standard input. It has one frame, raw, or frames in hexadecimal: one
+over several lines, or one in each line; empty lines and what follows a `#` are passed over. Bytes
+may stand as A2A6, A2 A6, 0xA2, A2:A6 or A2,A6, or as `hexdump -C` and `xxd` print them.
 ";
 
-const PARTS: [(&str, &str); 7] = [
+const PARTS: [(&str, &str); 8] = [
     (
         "explain",
         "\
-thoweldeck explain FILE [--steps] [--as piece|entry|request]
-    Explains the frame in FILE, raw or in hexadecimal: each field with its place, its bytes and its
-    meaning, the check worked out, and the reason where the frame is refused. With --steps the check is
-    worked out byte by byte. A frame is taken for what its protocol and flags say, unless --as says
-    otherwise.
-
+thoweldeck explain INPUT [--steps] [--as piece|entry|request|record] [--record RECORD]
+    Explains the frames or the record in INPUT: each field with its place, its bytes and its meaning,
+    the check worked out, and where it is refused the reason, its cause and the byte at fault. With
+    --steps the check is worked out byte by byte. INPUT is taken for what it looks like, unless --as
+    says otherwise. With --record it is shown where a piece goes in RECORD, or why it does not fit;
+    nothing is written.
 ",
     ),
     (
         "take",
         "\
-thoweldeck take RECORD FRAME... [--number N] [--length L]
-    Takes frames into RECORD, each from a file of its own, and says for each what happened. A frame that
-    is refused changes nothing. Where RECORD is not there yet it is made: number and length of the file
-    are then those of the directory entry among the frames, or what the options say.
-
+thoweldeck take RECORD INPUT... [--number N] [--length L]
+    Takes frames into RECORD, and says for each what happened. A frame that is refused changes nothing,
+    and what cannot be read keeps the others from nothing. Where RECORD is not there yet it is made.
+    Then number and length of the file are what the options say, or what the frames say: a directory
+    entry, or the file header in the piece at offset 0. Frames of several files need --number, unless
+    the directory entries among them are of one.
 ",
     ),
     (
         "join",
         "\
-thoweldeck join A B -o C
-    Writes to C what the stations of A and B hold together: what one station would hold that had heard
-    all that both heard. The order does not matter. C may be A or B; another file is not written over.
-
+thoweldeck join A B... -o C
+    Writes to C what the stations of A, B and more hold together: what one station would hold that had
+    heard all that they heard. The order does not matter. C may be one of them; another file is not
+    written over.
 ",
     ),
     (
         "holes",
         "\
 thoweldeck holes RECORD
-    Lists the holes of RECORD, ascending, and draws the map: # held, . missing.
-
+    Lists the holes of RECORD, ascending, and draws the map: # held, . missing. `-` is standard input.
 ",
     ),
     (
         "request",
         "\
 thoweldeck request RECORD --from CALL --to CALL -o DIR
+thoweldeck request RECORD|--number N --start --from CALL --to CALL -o DIR
     Writes the frames that ask for every hole, 49 at most in a frame, into the folder DIR. CALL is a
     callsign and its SSID, as VA3SFL-0. The frames name every byte that is missing once, and no other.
-
+    With --start it is one frame that asks for the file from its start: a record's file, or file N.
 ",
     ),
     (
@@ -88,26 +93,43 @@ thoweldeck request RECORD --from CALL --to CALL -o DIR
         "\
 thoweldeck show RECORD
     Shows the bytes that RECORD holds, in hexadecimal and as characters, with -- for a missing one.
-
+    `-` is standard input.
 ",
     ),
     (
         "save",
         "\
-thoweldeck save RECORD -o FILE
-    Writes the received file itself to FILE, once no hole is left.
-
+thoweldeck save RECORD -o FILE [--body]
+    Writes the received file itself to FILE, once no hole is left, and says whether the body's bytes
+    have the sum that its header tells (item 09). With --body it writes the body alone, without the
+    file header.
+",
+    ),
+    (
+        "list",
+        "\
+thoweldeck list FOLDER
+    Lists the records in FOLDER: number, name where the file header is held, length, how much is held,
+    how many holes there are, and the map as a picture.
 ",
     ),
 ];
 
 const END: &str = "\
-Nothing is lost: what is written goes into a new file, which takes the name once it is whole.
-The exit status is 0 where all is well, 1 where something is refused, 2 where the words make no sense
-or a file cannot be read or written.
+Nothing is lost: what is written goes into a new file, which takes the name once it is whole, and
+runs that write one record wait for each other.
+
+The exit status:
+   0  It is done. In `take`: all that was named was read, and what could be used is in the record.
+      Pieces of other files and damaged frames are told and counted; every pass has them.
+   1  Something was refused or left alone, as the lines say. In `take`: something that was named could
+      not be read; what could be used of the rest is in the record.
+   2  The words make no sense or do not say enough, or a file cannot be read or written; the line says
+      which.
+   3  In `take`: a piece of the record's own file does not fit the record (reasons 10 and 11), so one of
+      the two is not what it says. What could be used of the rest is in the record.
 
 A refusal has one of fifteen reasons, the first that holds in the operation's order:
-
 ";
 
 /// The page on one part of the command, or all of it.
@@ -135,7 +157,7 @@ pub fn version(out: &mut Out<'_>) -> End {
 }
 
 fn whole(out: &mut Out<'_>) {
-    out.line(PAGE.trim_end_matches('\n'));
+    out.line(PAGE.trim_end());
     for (_, page) in PARTS {
         out.line(format!("\n{}", page.trim_end()));
     }

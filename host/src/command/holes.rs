@@ -20,7 +20,7 @@ pub fn run(words: Words, out: &mut Out<'_>) -> End {
     for hole in &holes {
         out.line(format!("{:6}  {:6}  {}", hole.start, hole.length, positions(*hole)));
     }
-    out.line(format!("\n[{}]", picture(&reception)));
+    out.line(format!("\n[{}]", bar(&reception, WIDTH)));
     out.line(legend(reception.length()));
     Ok(Ended::Well)
 }
@@ -45,14 +45,14 @@ fn positions(hole: Hole) -> String {
     }
 }
 
-// How many positions a character of the picture stands for.
-fn each(length: u32) -> u32 {
-    (length + WIDTH - 1) / WIDTH
+// How many positions a character of a bar stands for that is at most so wide.
+fn each(length: u32, width: u32) -> u32 {
+    (length + width - 1) / width
 }
 
-// The map as a bar of characters.
-fn picture(reception: &Reception) -> String {
-    let each = each(reception.length());
+/// The map as a bar of at most so many characters.
+pub fn bar(reception: &Reception, width: u32) -> String {
+    let each = each(reception.length(), width);
     let mut bar = String::new();
     let mut from = 0;
     while from < reception.length() {
@@ -76,7 +76,7 @@ fn character(reception: &Reception, from: u32, to: u32) -> char {
 }
 
 fn legend(length: u32) -> String {
-    let each = each(length);
+    let each = each(length, WIDTH);
     let last = length - (length - 1) / each * each;
     if each == 1 {
         "each character is a position: # held, . missing".to_string()

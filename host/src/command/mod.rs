@@ -3,10 +3,12 @@ mod bytes;
 mod causes;
 mod explain;
 mod files;
+mod headers;
 mod help;
 mod holes;
 mod input;
 mod join;
+mod list;
 mod lock;
 mod names;
 mod out;
@@ -78,14 +80,15 @@ struct Part {
     options: &'static [&'static str],
 }
 
-const PARTS: [Part; 7] = [
+const PARTS: [Part; 8] = [
     Part { name: "explain", run: explain::run, switches: &["--steps"], options: &["--as", "--record"] },
     Part { name: "take", run: take::run, switches: &[], options: &["--number", "--length"] },
     Part { name: "join", run: join::run, switches: &[], options: &["-o"] },
     Part { name: "holes", run: holes::run, switches: &[], options: &[] },
-    Part { name: "request", run: request::run, switches: &[], options: &["--from", "--to", "-o"] },
+    Part { name: "request", run: request::run, switches: &["--start"], options: &["--from", "--to", "--number", "-o"] },
     Part { name: "show", run: show::run, switches: &[], options: &[] },
-    Part { name: "save", run: save::run, switches: &[], options: &["-o"] },
+    Part { name: "save", run: save::run, switches: &["--body"], options: &["-o"] },
+    Part { name: "list", run: list::run, switches: &[], options: &[] },
 ];
 
 /// Runs the part of the command that the first word names.
@@ -111,4 +114,45 @@ pub fn run(words: Vec<OsString>, out: &mut Out<'_>) -> End {
         return help::of(part.name, out);
     }
     (part.run)(words, out)
+}
+
+#[cfg(test)]
+mod tests {
+    use super::*;
+    use std::io::{self, Write};
+    use std::path::PathBuf;
+
+    // A writer that notes whether a file is there as each line is written.
+    struct Watching {
+        file: PathBuf,
+        lines: Vec<(String, bool)>,
+    }
+
+    impl Write for Watching {
+        fn write(&mut self, bytes: &[u8]) -> io::Result<usize> {
+            self.lines.push((String::from_utf8_lossy(bytes).into_owned(), self.file.exists()));
+            Ok(bytes.len())
+        }
+
+        fn flush(&mut self) -> io::Result<()> {
+            Ok(())
+        }
+    }
+
+    #[test]
+    fn a_line_is_written_before_the_next_work_is_done() {
+        let folder = std::env::temp_dir().join(format!("thoweldeck-lines-{}", std::process::id()));
+        std::fs::create_dir_all(&folder).expect("a folder");
+        let file = folder.join("a.record");
+        let frame = concat!(env!("CARGO_MANIFEST_DIR"), "/samples/survey/first/01.frame");
+        let words = ["take".into(), file.clone().into_os_string(), frame.into()];
+        let mut watching = Watching { file, lines: Vec::new() };
+        let mut out = Out::to(&mut watching);
+        assert_eq!(run(words.to_vec(), &mut out).expect("it is taken"), Ended::Well);
+        let seen =
+            |text: &str, lines: &[(String, bool)]| lines.iter().find(|line| line.0.contains(text)).map(|line| line.1);
+        assert_eq!(seen("a new record", &watching.lines), Some(false), "{:?}", watching.lines);
+        assert_eq!(seen("bytes held", &watching.lines), Some(true), "{:?}", watching.lines);
+        std::fs::remove_dir_all(&folder).expect("the folder goes");
+    }
 }

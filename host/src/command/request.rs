@@ -1,4 +1,4 @@
-//! `thoweldeck request RECORD --from CALL --to CALL -o DIR`: the frames that ask for what is missing.
+//! `thoweldeck request RECORD --from CALL --to CALL -o DIR`: the frames that ask for what is missing, or for the start.
 use super::bytes::counted;
 use super::causes::Cause;
 use super::names::{escaped, shown};
@@ -9,12 +9,19 @@ use std::path::Path;
 use thoweldeck::{Address, Asks, Request};
 
 pub fn run(words: Words, out: &mut Out<'_>) -> End {
-    let [path] = words.exactly(["a record"])?;
     let (from, to) = (address(&words, "--from")?, address(&words, "--to")?);
     let folder = words.path("-o")?;
-    let reception = files::record(&path)?;
-    let frames: Vec<Vec<u8>> = reception.requests(to, from).collect();
-    out.line(format!("{}: {}", shown(&path), super::holes::summary(&reception)));
+    let frames = if words.has("--start") {
+        vec![Request::start(to, from, file_to_start(&words)?)]
+    } else {
+        let [path] = words.exactly(["a record"])?;
+        if words.said::<u32>("--number", "the number of a file")?.is_some() {
+            return Err(Failure::Trouble("`--number` stands with `--start` only: a record has its number".to_string()));
+        }
+        let reception = files::record(&path)?;
+        out.line(format!("{}: {}", shown(&path), super::holes::summary(&reception)));
+        reception.requests(to, from).collect()
+    };
     if frames.is_empty() {
         out.line("nothing is missing, so there is nothing to ask for");
         return Ok(Ended::Well);
@@ -28,6 +35,18 @@ pub fn run(words: Words, out: &mut Out<'_>) -> End {
     Ok(Ended::Well)
 }
 
+// The file whose start is asked for: a record's, or, where there is no record yet, the one with a number.
+fn file_to_start(words: &Words) -> Result<u32, Failure> {
+    match words.said("--number", "the number of a file")? {
+        None => {
+            let [path] = words.exactly(["a record, or `--number`,"])?;
+            Ok(files::record(&path)?.number())
+        }
+        Some(number) if words.none() => Ok(number),
+        Some(_) => Err(Failure::Trouble("a record and `--number` both say which file: give one of them".to_string())),
+    }
+}
+
 // The address that an option gives. Refuses 2.
 fn address(words: &Words, option: &str) -> Result<Address, Failure> {
     let text = words.text(option)?;
@@ -39,7 +58,7 @@ fn asked(frame: &[u8]) -> Result<String, Failure> {
     let request =
         Request::read(frame).map_err(|reason| Failure::Refused("the request".to_string(), Cause::from(reason)))?;
     Ok(match request.asks {
-        Asks::Start => "asks for the start".to_string(),
+        Asks::Start => format!("asks for the start of file {}", request.number),
         Asks::Holes(holes) => {
             let missing: u32 = holes.iter().map(|hole| hole.length).sum();
             format!("asks for {} in {}", counted(missing as usize, "byte"), counted(holes.len(), "hole"))
@@ -53,9 +72,9 @@ fn make_folder(folder: &Path) -> Result<(), Failure> {
     fs::create_dir_all(folder).map_err(|error| files::trouble(folder, "cannot be made", &error))?;
     let entries = fs::read_dir(folder).map_err(|error| files::trouble(folder, "cannot be read", &error))?;
     for entry in entries.flatten() {
-        let name = entry.file_name().to_string_lossy().into_owned();
-        if name.starts_with("request-") {
-            let line = format!("{}: has requests already ({}); name another folder", shown(folder), escaped(&name));
+        let name = entry.file_name();
+        if name.to_string_lossy().starts_with("request-") {
+            let line = format!("{}: has requests already ({}); name another folder", shown(folder), shown(&name));
             return Err(Failure::Stopped(line));
         }
     }

@@ -68,6 +68,11 @@ impl Words {
         self.options.iter().find(|(name, _)| *name == option).map(|(_, value)| value.as_os_str())
     }
 
+    /// Whether no word stands by itself.
+    pub fn none(&self) -> bool {
+        self.alone.is_empty()
+    }
+
     /// The words that stand by themselves, where there are as many as names.
     pub fn exactly<const N: usize>(&self, names: [&str; N]) -> Result<[PathBuf; N], Failure> {
         let paths: Vec<PathBuf> = self.alone.iter().map(PathBuf::from).collect();

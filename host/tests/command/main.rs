@@ -6,4 +6,6 @@ mod losing;
 mod page;
 mod records;
 mod room;
+mod saving;
+mod taking;
 mod words;

@@ -1,12 +1,19 @@
-//! docs/HOST.md says what the command prints: each of its commands is run, in order, and the output compared.
+//! README.md and docs/HOST.md say what the command prints: each of their commands is run, in order, and the output
+//! compared.
 use super::room::Room;
 use std::fs;
 use std::path::Path;
 
-/// A command of the page, and what stands below it.
+/// A command of a page, and what stands below it.
 struct Shown {
     line: String,
     output: String,
+}
+
+// A page of the project.
+fn page(name: &str) -> String {
+    let path = Path::new(env!("CARGO_MANIFEST_DIR")).join("..").join(name);
+    fs::read_to_string(&path).unwrap_or_else(|error| panic!("{name}: {error}"))
 }
 
 // The commands in a page: in a block of the console, a line that begins with `$ `, and the lines up to the next one.
@@ -27,12 +34,10 @@ fn shown(page: &str) -> Vec<Shown> {
     all
 }
 
-#[test]
-fn the_page_shows_what_the_command_prints() {
-    let path = Path::new(env!("CARGO_MANIFEST_DIR")).join("../docs/HOST.md");
-    let page = fs::read_to_string(&path).expect("docs/HOST.md");
-    let all = shown(&page);
-    assert!(all.len() >= 8, "explain, take, holes, request, join, show and save are walked through");
+// Runs every command of a page in one room, and compares.
+fn compare(name: &str, page: &str) {
+    let all = shown(page);
+    assert!(all.len() >= 6, "{name}: take, holes, request, join and save are walked through");
     let room = Room::new();
     for Shown { line, output } in all {
         let ran = room.shell(&line);
@@ -40,14 +45,53 @@ fn the_page_shows_what_the_command_prints() {
         if ran.status != 0 {
             printed.push_str(&format!("[exit status {}]\n", ran.status));
         }
-        assert_eq!(printed, output, "docs/HOST.md: $ {line}");
+        assert_eq!(printed, output, "{name}: $ {line}");
     }
+}
+
+#[test]
+fn the_page_shows_what_the_command_prints() {
+    compare("docs/HOST.md", &page("docs/HOST.md"));
+}
+
+#[test]
+fn the_first_page_shows_what_the_command_prints() {
+    // in the project's first folder the samples stand in the host's, and the command has no place on the PATH
+    let page = page("README.md").replace("host/samples/", "samples/").replace("$ ./thoweldeck ", "$ thoweldeck ");
+    compare("README.md", &page);
+}
+
+#[test]
+fn the_first_page_is_short() {
+    let words = page("README.md").split_whitespace().count();
+    assert!(words < 900, "README.md has {words} words");
+}
+
+// The targets of a page's links that are files of the project: what stands between `](` and `)`.
+fn links(page: &str) -> Vec<&str> {
+    let targets = page.split("](").skip(1).filter_map(|rest| rest.split(')').next());
+    targets.filter(|target| !target.contains("://")).map(|target| target.split('#').next().unwrap_or("")).collect()
+}
+
+#[test]
+fn every_link_leads_to_a_file() {
+    let project = Path::new(env!("CARGO_MANIFEST_DIR")).join("..");
+    let mut found = 0;
+    for name in ["README.md", "docs/HOST.md", "docs/ARCHITECTURE.md", "docs/PROMISES.md", "docs/CASES.md"] {
+        let folder = project.join(name);
+        let folder = folder.parent().expect("a folder");
+        for link in links(&page(name)) {
+            assert!(folder.join(link).exists(), "{name}: {link}");
+            found += 1;
+        }
+    }
+    assert!(found > 20, "the pages have links: {found}");
 }
 
 #[test]
 fn the_page_shows_the_example_as_it_is() {
     let host = Path::new(env!("CARGO_MANIFEST_DIR"));
-    let page = fs::read_to_string(host.join("../docs/HOST.md")).expect("docs/HOST.md");
     let example = fs::read_to_string(host.join("examples/station.rs")).expect("the example");
+    let page = page("docs/HOST.md");
     assert!(page.contains(&format!("```rust\n{example}```\n")), "docs/HOST.md shows host/examples/station.rs");
 }

@@ -13,6 +13,7 @@ fn frames_make_and_extend_a_record() {
         ran.text,
         "a.record: a new record of file 7, 20 bytes\n\
          1: 4 bytes at 0, 4 new\n\
+         1 frame: 1 with something new\n\
          a.record: file 7, 4 of 20 bytes held, 1 hole\n"
     );
     let ran = room.run(&["take", "a.record", "2", "1"]);
@@ -22,6 +23,7 @@ fn frames_make_and_extend_a_record() {
             0,
             "2: 2 bytes at 8, 2 new\n\
              1: 4 bytes at 0, a repeat: nothing new\n\
+             2 frames: 1 with something new, 1 repeated\n\
              a.record: file 7, 6 of 20 bytes held, 2 holes\n"
         )
     );
@@ -44,15 +46,15 @@ fn a_refused_frame_changes_nothing_and_the_others_are_taken() {
     room.write("other", &piece(8, 4, b"EFGH"));
     room.write("beyond", &piece(7, 18, b"EFGH"));
     room.write("differs", &piece(7, 2, b"XDEF"));
-    for (name, number) in [("damaged", 6), ("other", 9), ("beyond", 10), ("differs", 11)] {
+    for (name, number, status) in [("damaged", 6, 0), ("other", 9, 0), ("beyond", 10, 3), ("differs", 11, 3)] {
         let ran = room.run(&["take", "a.record", name]);
-        assert_eq!(ran.status, 1);
+        assert_eq!(ran.status, status);
         assert!(ran.text.starts_with(&format!("{name}: refused, reason {number}: ")), "{ran:?}");
         assert_eq!(room.read("a.record"), before, "{name}");
     }
     room.write("2", &piece(7, 4, b"EFGH"));
     let ran = room.run(&["take", "a.record", "damaged", "2", "other"]);
-    assert_eq!(ran.status, 1);
+    assert_eq!(ran.status, 0);
     assert_eq!(room.record("a.record").held(), 8);
 }
 
@@ -63,17 +65,21 @@ fn a_new_record_needs_a_number_and_a_length() {
     let ran = room.run(&["take", "a.record", "1"]);
     assert_eq!(ran.status, 2);
     assert!(ran.errors.contains("the file's length is not known"), "{ran:?}");
-    for (length, status) in [("0", 1), ("1", 1), ("4", 0), ("32768", 0), ("32769", 1), ("4294967295", 1)] {
+    for (length, status) in [("0", 1), ("1", 3), ("4", 0), ("32768", 0), ("32769", 1), ("4294967295", 1)] {
         let name = format!("{length}.record");
         let ran = room.run(&["take", &name, "1", "--length", length]);
         assert_eq!(ran.status, status, "{length}: {ran:?}");
         // a piece beyond the length is refused, and the record is there; a length out of range makes none
-        assert_eq!(room.read(&name).is_some(), ["1", "4", "32768"].contains(&length), "{length}");
+        let is_there = ["1", "4", "32768"].contains(&length);
+        assert_eq!(ran.errors.contains("reason 7: the file's length is"), !is_there, "{ran:?}");
+        assert_eq!(room.read(&name).is_some(), is_there, "{length}");
     }
     let ran = room.run(&["take", "b.record", "1", "--length", "20", "--number", "9"]);
-    assert!(ran.status == 1 && ran.text.contains("1: refused, reason 9: "), "{ran:?}");
+    assert!(ran.status == 0 && ran.text.contains("1: refused, reason 9: "), "{ran:?}");
     let ran = room.run(&["take", "4.record", "1", "--length", "5"]);
-    assert!(ran.status == 1 && ran.errors.contains("refused, reason 9: "), "{ran:?}");
+    assert!(ran.status == 1 && ran.errors.contains("refused, reason 9: its file has 4 bytes, and not 5"), "{ran:?}");
+    let ran = room.run(&["take", "4.record", "1", "--number", "8"]);
+    assert!(ran.status == 1 && ran.errors.contains("refused, reason 9: it is of file 7, and not"), "{ran:?}");
 }
 
 #[test]
@@ -106,7 +112,7 @@ fn stations(room: &Room) {
     for (record, station) in [("a.record", "first"), ("b.record", "second")] {
         let ran =
             room.shell(&format!("thoweldeck take {record} samples/survey/entry.frame samples/survey/{station}/*"));
-        assert!(ran.status <= 1, "{ran:?}");
+        assert_eq!(ran.status, 0, "{ran:?}");
     }
 }
 
@@ -124,6 +130,30 @@ fn joined_records_are_the_file() {
     // a joined record may take the place of one of the two
     assert_eq!(room.run(&["join", "a.record", "b.record", "-o", "a.record"]).status, 0);
     assert_eq!(room.read("a.record"), room.read("c.record"));
+}
+
+#[test]
+fn three_records_are_joined() {
+    let room = Room::new();
+    for (name, offset, bytes) in [("a", 0, b"ABCD"), ("b", 2, b"CDEF"), ("c", 8, b"IJKL")] {
+        room.write("1", &piece(7, offset, bytes));
+        assert_eq!(room.run(&["take", name, "1", "--length", "20"]).status, 0);
+    }
+    let ran = room.run(&["join", "a", "b", "c", "-o", "all"]);
+    assert_eq!(
+        (ran.status, ran.text.as_str()),
+        (
+            0,
+            "b: has 2 bytes that a has not\n\
+             c: has 4 bytes that those before it have not\n\
+             all: file 7, 10 of 20 bytes held, 2 holes\n"
+        )
+    );
+    // any order, and the last may be written over
+    assert_eq!(room.run(&["join", "b", "a", "c", "-o", "c"]).status, 0);
+    assert_eq!(room.read("c"), room.read("all"));
+    let ran = room.run(&["join", "a", "-o", "alone"]);
+    assert_eq!((ran.status, room.read("alone")), (2, None), "one is not enough: {ran:?}");
 }
 
 #[test]
@@ -186,6 +216,33 @@ fn requests_ask_for_every_hole() {
         let ran = room.run(&words);
         assert_eq!(ran.status, 1);
         assert!(ran.errors.contains("refused, reason 2: "), "{ran:?}");
+    }
+}
+
+#[test]
+fn a_start_is_asked_for() {
+    let room = Room::new();
+    stations(&room);
+    let calls = ["--from", "VA3SFL-0", "--to", "UOSAT5-11"];
+    let (to, from): (Address, Address) = ("UOSAT5-11".parse().unwrap(), "VA3SFL-0".parse().unwrap());
+    let ran = room.run(&[&["request", "a.record", "--start", "-o", "start"][..], &calls].concat());
+    let line = "start/request-001.frame: 23 bytes, VA3SFL-0 to UOSAT5-11, asks for the start of file 1201\n";
+    assert_eq!((ran.status, ran.text.as_str()), (0, line), "{ran:?}");
+    assert_eq!(room.read("start/request-001.frame"), Some(Request::start(to, from, 1201)));
+    // of a file that there is no record of yet
+    let ran = room.run(&[&["request", "--start", "--number=44647", "-o", "other"][..], &calls].concat());
+    assert_eq!(
+        (ran.status, room.read("other/request-001.frame")),
+        (0, Some(Request::start(to, from, 44647))),
+        "{ran:?}"
+    );
+    for words in [
+        &["request", "--start", "-o", "none"][..],
+        &["request", "a.record", "--start", "--number", "7", "-o", "none"],
+        &["request", "a.record", "--number", "7", "-o", "none"],
+    ] {
+        let ran = room.run(&[words, &calls].concat());
+        assert_eq!((ran.status, room.read("none")), (2, None), "{words:?}: {ran:?}");
     }
 }
 
@@ -289,13 +346,13 @@ fn frames_that_are_no_pieces_are_told_as_what_they_are() {
     assert_eq!(ran.status, 0);
     assert!(ran.text.starts_with("start: a request for file 7, and no piece\n"), "{ran:?}");
     let ran = room.run(&["take", "a.record", "damaged"]);
-    assert_eq!(ran.status, 1);
+    assert_eq!(ran.status, 0);
     assert!(ran.text.starts_with("damaged: refused, reason 6: "), "{ran:?}");
     // a new record of which too little is known: each frame is told all the same
-    let ran = room.run(&["take", "new.record", "damaged", "samples/survey/first/01.frame"]);
-    assert_eq!((ran.status, ran.text.lines().count()), (1, 2));
+    let ran = room.run(&["take", "new.record", "damaged", "samples/survey/first/02.frame"]);
+    assert_eq!((ran.status, ran.text.lines().count()), (2, 2));
     assert!(ran.text.starts_with("damaged: refused, reason 6: "), "{ran:?}");
-    assert!(ran.text.ends_with("samples/survey/first/01.frame: a piece of file 1201, not taken\n"), "{ran:?}");
+    assert!(ran.text.ends_with("samples/survey/first/02.frame: a piece of file 1201, not taken\n"), "{ran:?}");
     // an entry that tells another length than the record has
     let ran = room.run(&["take", "cut.record", "samples/survey/entry.frame", "--length", "100"]);
     let line = "samples/survey/entry.frame: directory entry of file 1201, 2358 bytes, and the record has 100 bytes\n";

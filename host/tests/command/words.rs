@@ -15,6 +15,11 @@ fn words_that_make_no_sense_are_told() {
         (&["take", "a.record", "samples/survey/entry.frame", "--length", "many"], "`--length many` is not"),
         (&["take", "a.record", "samples/survey/entry.frame", "--length", "-1"], "`--length -1` is not"),
         (&["join", "a", "b"], "`-o` is wanted"),
+        (&["join", "a", "-o", "b"], "a record and the records to join it with are wanted"),
+        (&["join", "a", "b", "-o", ""], "is no name of a file"),
+        (&["take", "a.record", "b", "--length=many"], "`--length many` is not"),
+        (&["take", "a.record", "b", "--length=1", "--length", "2"], "`--length` is given twice"),
+        (&["explain", "a", "--steps=yes"], "there is no option `--steps=yes`"),
         (&["join", "a", "b", "-o"], "`-o` is to be followed by its value"),
         (&["save", "a", "-o", "b", "-o", "c"], "`-o` is given twice"),
         (&["request", "a", "-o", "b", "--to", "QST"], "`--from` is wanted"),
@@ -37,7 +42,7 @@ fn help_has_every_part_and_every_reason() {
     let room = Room::new();
     let whole = room.run(&["--help"]);
     assert_eq!((whole.status, whole.errors.as_str()), (0, ""));
-    for part in ["explain", "take", "join", "holes", "request", "show", "save"] {
+    for part in ["explain", "take", "join", "holes", "request", "show", "save", "list"] {
         let page = room.run(&[part, "--help"]);
         assert_eq!(page.status, 0);
         assert!(page.text.starts_with(&format!("thoweldeck {part} ")), "{part}");
@@ -48,6 +53,19 @@ fn help_has_every_part_and_every_reason() {
         assert!(whole.text.contains(&format!("\n{number:4}  ")), "reason {number}");
     }
     assert!(whole.text.lines().all(|line| line.len() <= 104), "the page is not too wide");
+    for status in 0..=3 {
+        assert!(whole.text.contains(&format!("\n   {status}  ")), "exit status {status}");
+    }
+}
+
+#[test]
+fn the_version_is_told() {
+    let room = Room::new();
+    let wanted = format!("thoweldeck {}\n", env!("CARGO_PKG_VERSION"));
+    for word in ["-V", "--version"] {
+        let ran = room.run(&[word]);
+        assert_eq!((ran.status, ran.text.as_str()), (0, wanted.as_str()), "{word}");
+    }
 }
 
 #[test]
@@ -69,12 +87,11 @@ fn a_text_that_is_not_hexadecimal_is_told() {
     let room = Room::new();
     // the letter O in the place of a zero, as a copy of a figure may have it
     room.write("figure", b"AC 82 66 A6 O2 98 60\n");
-    for words in [&["explain", "figure"][..], &["take", "a.record", "figure", "--length", "20"]] {
-        let ran = room.run(words);
-        assert_eq!(ran.status, 2, "{ran:?}");
-        assert!(ran.errors.contains("figure: is a text, and `O2` in line 1 is no pair"), "{ran:?}");
-    }
-    assert_eq!(room.names(), ["figure"]);
+    let said = "figure: is a text, and `O2` in line 1 is no pair";
+    let ran = room.run(&["explain", "figure"]);
+    assert!(ran.status == 2 && ran.errors.contains(said), "{ran:?}");
+    let ran = room.run(&["take", "a.record", "figure", "--number", "7", "--length", "20"]);
+    assert!(ran.status == 1 && ran.text.contains(said), "{ran:?}");
 }
 
 #[test]
