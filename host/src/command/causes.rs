@@ -1,6 +1,7 @@
 //! Why something is refused: the reason that the library gave, and in words the cause of it that holds.
 use super::bytes::counted;
 use super::explain::{faults, looks, places, Fault, Kind};
+use super::names::escaped;
 use std::fmt;
 use thoweldeck::{Reason, Reception};
 
@@ -69,6 +70,23 @@ impl Cause {
     pub fn of_length(length: u32) -> Cause {
         let words = format!("the file's length is {length}, and must be 1 to 32,768");
         Cause { reason: Reason::Size, words }
+    }
+
+    /// The cause of a text that is no address: what stands in it in the place of a callsign and its SSID, as `VA3SFL-0`.
+    pub fn of_call(text: &str) -> Cause {
+        let (callsign, ssid) = text.split_once('-').map_or((text, None), |(callsign, ssid)| (callsign, Some(ssid)));
+        let strange = callsign.chars().find(|c| !c.is_ascii_uppercase() && !c.is_ascii_digit());
+        let words = match (callsign.chars().count(), strange, ssid) {
+            (0, ..) => "it has no callsign".to_string(),
+            (_, Some(c), _) if c.is_ascii_lowercase() => {
+                format!("`{c}` is a small letter, and a callsign has A-Z and 0-9")
+            }
+            (_, Some(c), _) => format!("`{}` is none of A-Z and 0-9", escaped(&c.to_string())),
+            (count, ..) if count > 6 => format!("the callsign has {count} characters, and 6 is the most"),
+            (.., Some(ssid)) => format!("the SSID is `{}`, and must be 0 to 15", escaped(ssid)),
+            _ => Reason::Address.sentence().to_string(),
+        };
+        Cause { reason: Reason::Address, words }
     }
 
     /// The cause that a refusal's faults tell: the first of them, and how many more there are.
@@ -144,6 +162,24 @@ mod tests {
     fn a_length_that_no_file_has_is_told() {
         let told = Cause::of_length(40_000).to_string();
         assert_eq!(told, "reason 7: the file's length is 40000, and must be 1 to 32,768");
+    }
+
+    #[test]
+    fn a_text_that_is_no_address_is_told() {
+        for (text, words) in [
+            ("", "it has no callsign"),
+            ("-1", "it has no callsign"),
+            ("VA3sFL-0", "`s` is a small letter, and a callsign has A-Z and 0-9"),
+            ("VA3 FL", "` ` is none of A-Z and 0-9"),
+            ("VA\u{1b}3", "`\\u{1b}` is none of A-Z and 0-9"),
+            ("QRPX1234", "the callsign has 8 characters, and 6 is the most"),
+            ("VA3SFL-16", "the SSID is `16`, and must be 0 to 15"),
+            ("VA3SFL-07", "the SSID is `07`, and must be 0 to 15"),
+            ("VA3SFL-", "the SSID is ``, and must be 0 to 15"),
+        ] {
+            let reason = text.parse::<thoweldeck::Address>().expect_err(text);
+            assert_eq!(Cause::of_call(text), Cause { reason, words: words.to_string() });
+        }
     }
 
     #[test]

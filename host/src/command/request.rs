@@ -50,7 +50,7 @@ fn file_to_start(words: &Words) -> Result<u32, Failure> {
 // The address that an option gives. Refuses 2.
 fn address(words: &Words, option: &str) -> Result<Address, Failure> {
     let text = words.text(option)?;
-    text.parse().map_err(|reason| Failure::Refused(format!("`{option} {}`", escaped(&text)), Cause::from(reason)))
+    text.parse().map_err(|_| Failure::Refused(format!("`{option} {}`", escaped(&text)), Cause::of_call(&text)))
 }
 
 // What a request asks for, read from its frame.

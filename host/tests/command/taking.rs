@@ -28,6 +28,23 @@ fn what_cannot_be_read_keeps_nothing_back() {
 }
 
 #[test]
+fn what_is_no_frame_at_all_is_told_as_what_it_is() {
+    let room = Room::new();
+    room.write("1", &piece(7, 0, b"ABCD"));
+    room.write("picture", b"\x89PNG\r\n\x1A\n\0\0\0\rIHDR");
+    room.write("empty", b"");
+    assert_eq!(room.run(&["take", "a.record", "1", "--length", "20"]).status, 0);
+    // a pattern of the shell brings the record itself, too
+    let ran = room.run(&["take", "b.record", "1", "a.record", "picture", "empty", "--length", "20"]);
+    assert_eq!(ran.status, 1, "{ran:?}");
+    assert!(ran.text.contains("\na.record: this is a record, and no frame"), "{ran:?}");
+    assert!(ran.text.contains("\npicture: this looks like a picture, and not like a frame"), "{ran:?}");
+    assert!(ran.text.contains("\nempty: there is nothing in it"), "{ran:?}");
+    assert!(ran.text.contains("\n1 frame: 1 with something new; 3 that could not be read\n"), "{ran:?}");
+    assert_eq!(room.record("b.record").held(), 4);
+}
+
+#[test]
 fn other_files_and_damage_are_told_and_counted() {
     let room = Room::new();
     let mut damaged = piece(7, 4, b"EFGH");

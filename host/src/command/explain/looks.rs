@@ -60,6 +60,13 @@ pub fn line(bytes: &[u8]) -> Option<String> {
     Some(line)
 }
 
+/// A line on bytes that are surely no frame, damaged or not: nothing at all, a record, or something else that is known.
+pub fn stray(bytes: &[u8]) -> Option<String> {
+    let is_record = bytes.starts_with(&records::START);
+    let is_other = !is_framed(bytes) && (bytes.is_empty() || known(bytes).is_some());
+    line(bytes).filter(|_| is_record || is_other)
+}
+
 // Whether bytes have what is a frame's even if it is damaged: its two addresses, or control and protocol.
 fn is_framed(bytes: &[u8]) -> bool {
     let well_formed = |role: &Role| role.bytes(bytes).map_or(false, |bytes| !addresses::is_malformed(*role, bytes));
@@ -141,7 +148,7 @@ mod tests {
             for place in 0..frame.len() {
                 let mut damaged = frame.to_vec();
                 damaged[place] ^= 0x81;
-                assert_eq!(line(&damaged), None, "{place}");
+                assert_eq!((line(&damaged), stray(&damaged)), (None, None), "{place}");
             }
         }
     }
@@ -157,6 +164,20 @@ mod tests {
         told("Gehört am Abend\n".as_bytes(), "this looks like a text, and not like a frame");
         told(&[0; 40], "this looks neither like a frame nor like a record");
         told(b"\x13\x37", "this looks neither like a frame nor like a record");
+    }
+
+    #[test]
+    fn what_is_surely_no_frame_is_stray() {
+        // a record whose map has 187 bytes has 03 BB where a frame has control and protocol
+        let record = Reception::open(7, 8 * 0xBB).expect("a length").save();
+        assert_eq!(record[14..16], [0x03, 0xBB]);
+        for bytes in [&b""[..], &record, &record[..30], b"\xAA\x55\x01\0", b"\x89PNG\r\n", b"notes"] {
+            assert!(stray(bytes).is_some(), "{bytes:02X?}");
+        }
+        // what may be a frame of which little is left is none of these
+        for bytes in [&[0; 40][..], &PIECE[..10], &PIECE[5..], &[PIECE, b"\x12\x34"].concat()] {
+            assert_eq!(stray(bytes), None, "{bytes:02X?}");
+        }
     }
 
     #[test]

@@ -4,7 +4,7 @@ mod tally;
 
 use super::bytes::counted;
 use super::causes::Cause;
-use super::explain::Kind;
+use super::explain::{looks, Kind};
 use super::files::Source;
 use super::names::shown;
 use super::words::Words;
@@ -126,7 +126,10 @@ impl Heard {
         match reception.take(frame) {
             Ok(0) => (Came::Repeat, format!("{}, a repeat: nothing new", spot(frame))),
             Ok(new) => (Came::New, format!("{}, {new} new", spot(frame))),
-            Err(reason) => (Came::refused(reason), format!("refused, {}", Cause::of_piece(frame, reception, reason))),
+            Err(reason) => match looks::stray(frame) {
+                Some(line) => (Came::Unread, line),
+                None => (Came::refused(reason), format!("refused, {}", Cause::of_piece(frame, reception, reason))),
+            },
         }
     }
 
@@ -139,7 +142,8 @@ impl Heard {
         match (other_than_piece(frame), Piece::read(frame)) {
             (Some((_, line)), _) => line,
             (None, Ok(piece)) => format!("a piece of file {}, not taken", piece.number),
-            (None, Err(reason)) => format!("refused, {}", Cause::of_frame(Kind::Piece, frame, reason)),
+            (None, Err(reason)) => looks::stray(frame)
+                .unwrap_or_else(|| format!("refused, {}", Cause::of_frame(Kind::Piece, frame, reason))),
         }
     }
 }
