@@ -1,7 +1,9 @@
 //! The command `thoweldeck`, run as a user runs it: what it prints, its exit status, and what it leaves in files.
+mod dumps;
 mod escapes;
 mod explaining;
 mod explaining_records;
+mod inputs;
 mod losing;
 mod page;
 mod records;
