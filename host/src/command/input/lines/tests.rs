@@ -150,6 +150,21 @@ fn several_frames_in_several_lines_each() {
 }
 
 #[test]
+fn a_line_that_almost_begins_as_a_frame_begins_none() {
+    // behind 7 bytes a line of 16: even bytes up to an odd one and 03, and the same with each of them otherwise
+    let mut lines = vec![[0; 16]; 3];
+    lines.iter_mut().for_each(|line| line[13..15].copy_from_slice(&[0x01, 0x03]));
+    lines[0][14] = 0x13;
+    lines[1][13] = 0x00;
+    lines[2][12] = 0x01;
+    for near in lines {
+        let mut frame = piece(0, &[&[0; 7][..], &near, b"abc"].concat());
+        frame[20] = 0xFF;
+        assert_eq!(read(&wrapped(&frame, 16)), [(1, frame.clone())], "{near:02X?}");
+    }
+}
+
+#[test]
 fn frames_inside_a_piece_are_its_data() {
     let inside = [&[0; 7][..], &piece(0, b"a"), &[0; 4], &piece(1, b"b"), &[0; 4], &request(1)].concat();
     let frame = piece(0, &inside);
