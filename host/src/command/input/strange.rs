@@ -80,7 +80,7 @@ impl fmt::Display for Strange {
                 write!(f, "is a {}, and `{}` in line {line} {}", why.form(), escaped(word), why.words(word))
             }
             Strange::Nothing => f.write_str("is a text, and has no frame in it"),
-            Strange::Long => write!(f, "is a text of more than {MOST} bytes: give its frames in several"),
+            Strange::Long => write!(f, "is a text of more than {MOST} bytes: give it in parts"),
         }
     }
 }
