@@ -54,11 +54,16 @@ fn functions(source: &str) -> Vec<(String, String)> {
         .collect()
 }
 
+// Whether a function answers a result.
+fn refuses(declared: &str) -> bool {
+    declared.contains("Result<")
+}
+
 #[test]
 fn a_page_says_when_its_function_refuses() {
     let mut count = 0;
     for (path, source) in sources() {
-        for (above, declared) in functions(&source).iter().filter(|(_, declared)| declared.contains("-> Result<")) {
+        for (above, declared) in functions(&source).iter().filter(|(_, declared)| refuses(declared)) {
             assert!(above.contains("/// # Errors"), "{}: {declared}\n{above}", path.display());
             count += 1;
         }
@@ -71,7 +76,7 @@ fn an_answer_that_is_all_a_function_does_must_be_looked_at() {
     let mut count = 0;
     for (path, source) in sources() {
         for (above, declared) in functions(&source) {
-            let answers = declared.contains("->") && !declared.contains("-> Result<");
+            let answers = declared.contains("->") && !refuses(&declared);
             // an iterator's own type says it
             if answers && !declared.contains("-> Holes<") && !declared.contains("-> Requests<") {
                 assert!(above.contains("#[must_use]"), "{}: {declared}", path.display());

@@ -9,8 +9,8 @@ use std::io::{self, ErrorKind, Read};
 use std::path::{Path, PathBuf};
 use thoweldeck::Reception;
 
-// More bytes than a record has, or a text with every frame of a long pass in hexadecimal.
-const MOST: usize = 1 << 24;
+/// More bytes than a record has, or a text with every frame of a long pass in hexadecimal.
+pub const MOST: usize = 1 << 24;
 
 /// Where something is read from.
 #[derive(Clone, Debug, PartialEq, Eq)]

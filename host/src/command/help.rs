@@ -33,10 +33,10 @@ keeps what it has in a record, asks for what is missing, and joins its record wi
   THE RECORD   Number and length of the file, a map of which positions are HELD (a set bit means
                held, not missing), and the bytes. A repeat changes nothing, so take what you hear.
   THE HOLE     A longest run of positions that are not held: where it starts, how many they are.
-
-An INPUT is a file, or `-` for standard input. It has one frame, raw, or frames in hexadecimal: one
-over several lines, or one in each line; empty lines and what follows a `#` are passed over. Bytes
-may stand as A2A6, A2 A6, 0xA2, A2:A6 or A2,A6, or as `hexdump -C` and `xxd` print them.
+  THE INPUT    A file, or - for standard input. Raw bytes are one frame. A text has frames in
+               hexadecimal, each in a line of its own or in several: A2A6, A2 A6, 0xA2, A2:A6 or A2,A6.
+               What stands behind # is a comment. The dumps of hexdump -C, xxd and od -t x1 are read
+               too. What cannot be told apart safely is refused, with the word and its line.
 ";
 
 const PARTS: [(&str, &str); 8] = [

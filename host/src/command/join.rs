@@ -11,6 +11,9 @@ pub fn run(words: Words, out: &mut Out<'_>) -> End {
     // the joined record has all that each of them has, so it may take the place of any
     let over = std::iter::once(&first).chain(&others).any(|other| files::is_same(&path, other));
     let target = files::Target::lock(&path)?;
+    if !over {
+        target.is_free()?;
+    }
     let mut joined = files::record(&first)?;
     for (index, name) in others.iter().enumerate() {
         let other = files::record(name)?;

@@ -36,11 +36,17 @@ impl Target {
         self.path.symlink_metadata().is_ok()
     }
 
-    /// Writes the file where it is not there yet, and over nothing.
-    pub fn create(&self, bytes: &[u8]) -> Result<(), Failure> {
+    /// Stops where the file is there, for what writes over nothing.
+    pub fn is_free(&self) -> Result<(), Failure> {
         if self.is_there() {
             return Err(there(&self.name));
         }
+        Ok(())
+    }
+
+    /// Writes the file where it is not there yet, and over nothing.
+    pub fn create(&self, bytes: &[u8]) -> Result<(), Failure> {
+        self.is_free()?;
         self.clear()?;
         self.done(&self.new, written(&self.new, bytes, None))?;
         match linked(&self.new, &self.path) {

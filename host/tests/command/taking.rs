@@ -150,13 +150,21 @@ fn a_text_of_frames_is_taken_line_by_line() {
     let (one, two) = (line(&piece(7, 0, b"ABCD")), line(&piece(7, 4, b"EFGH")));
     let mut damaged = piece(7, 8, b"IJKL");
     damaged[26] ^= 1;
-    room.write("pass", format!("# Monday\n{one}\n\n{}\n{two}\n", line(&damaged)).as_bytes());
+    let text = format!("# Monday\n{one}\n\n{}\n{two}\n", line(&damaged));
+    room.write("pass", text.as_bytes());
     let ran = room.run(&["take", "a.record", "pass", "--length", "20"]);
     assert_eq!(ran.status, 0, "{ran:?}");
     let lines: Vec<&str> = ran.text.lines().skip(1).collect();
     assert_eq!(lines[0], "pass line 2: 4 bytes at 0, 4 new");
     assert!(lines[1].starts_with("pass line 4: refused, reason 6: "), "{ran:?}");
     assert_eq!(lines[2], "pass line 5: 4 bytes at 4, 4 new");
+    // a line that is no frame takes nothing from the others
+    room.write("noted", format!("{text}noise of a burst\n").as_bytes());
+    let ran = room.run(&["take", "b.record", "noted", "--length", "20"]);
+    assert_eq!((ran.status, room.read("b.record")), (1, room.read("a.record")), "{ran:?}");
+    assert!(ran.text.contains("\nnoted: is a text, and `noise` in line 6 is no pair"), "{ran:?}");
+    let ran = room.run(&["explain", "noted"]);
+    assert!(ran.status == 1 && ran.text.contains("\nnoted: is a text, and `noise` in line 6 is no pair"), "{ran:?}");
 }
 
 #[test]

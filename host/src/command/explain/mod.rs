@@ -88,6 +88,10 @@ fn all(source: &Source, read: &Frames, asked: &Asked, out: &mut Out<'_>) -> End 
         out.line("");
         ended = ended.max(explained(kind, &heard.bytes, asked, out));
     }
+    for strange in &read.strange {
+        out.line(format!("\n{source}: {strange}"));
+        ended = Ended::Partly;
+    }
     Ok(ended)
 }
 
@@ -162,7 +166,7 @@ mod tests {
     // What is said about the frames of an input.
     fn text(frames: Vec<Heard>, asked: &Asked) -> (End, String) {
         let mut text = Vec::new();
-        let read = Frames { form: Form::Raw, frames };
+        let read = Frames { form: Form::Raw, frames, strange: Vec::new() };
         let mut out = Out::to(&mut text);
         let end = all(&Source::Standard, &read, asked, &mut out);
         out.end().expect("a list takes all");

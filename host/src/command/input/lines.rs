@@ -1,32 +1,38 @@
 //! A text of hexadecimal digits: its bytes, and which of its lines are a frame.
 //!
 //! A frame may have a line of its own, or several. The library tells which: it accepts lines alone, or lines together.
-//! So no frame that is there is lost, whatever is damaged beside it.
+//! So no frame that is there is lost, whatever is damaged beside it, or strange in a line of its own.
 use super::dump;
 use super::pairs;
-use super::strange::{Strange, Why};
-use super::{text, Heard};
+use super::strange::{Strange, Unread, Why};
+use super::{text, Form, Frames, Heard};
 use thoweldeck::{Entry, Piece, Request};
 
 // The most bytes that a frame has: 16 and an information of 255.
 const LONGEST: usize = 271;
 
-/// The frames of a text, each with the line it begins in.
-pub fn frames(text: &str) -> Result<Vec<Heard>, Strange> {
-    let read = Read::of(text)?;
+/// The frames of a text, each with the line it begins in. A line that cannot be read is told beside them where each line
+/// is for itself: the library accepts one alone, and no frame has several. Else it may be a part of any frame.
+pub fn frames(text: &str) -> Result<Frames, Strange> {
+    let mut read = Read::of(text)?;
     let starts = read.starts();
+    let strange = std::mem::take(&mut read.strange);
+    if let (Some(first), false) = (strange.first(), starts.len() == read.lines.len() && read.has_one_alone()) {
+        return Err(first.clone());
+    }
     let ends = starts.iter().skip(1).copied().chain([read.lines.len()]);
     let heard = |(start, end): (&usize, usize)| Heard {
         bytes: read.of_lines(*start, end).to_vec(),
         line: Some(read.lines[*start].number),
     };
-    Ok(starts.iter().zip(ends).map(heard).collect())
+    Ok(Frames { form: Form::Hexadecimal, frames: starts.iter().zip(ends).map(heard).collect(), strange })
 }
 
-// The bytes of a text, and the lines that they stand in.
+// The bytes of a text, the lines that they stand in, and the lines that cannot be read.
 struct Read {
     bytes: Vec<u8>,
     lines: Vec<Line>,
+    strange: Vec<Strange>,
 }
 
 // A line that has bytes: its number from 1, and how many bytes stand before it.
@@ -38,21 +44,27 @@ struct Line {
 impl Read {
     // Reads the digits of a text. A comment goes from `#` to the end of its line.
     fn of(text: &str) -> Result<Read, Strange> {
-        let mut read = Read { bytes: Vec::new(), lines: Vec::new() };
+        let mut read = Read { bytes: Vec::new(), lines: Vec::new(), strange: Vec::new() };
         for (number, line) in text::lines(text) {
-            let digits = line.split('#').next().unwrap_or(line).trim_end();
-            if let Some(place) = dump::place_in(digits) {
-                return Err(Strange::at(number, (place, Why::Start)));
-            }
-            read.lines.push(Line { number, before: read.bytes.len() });
-            for word in digits.split_whitespace() {
-                pairs::add(word, &mut read.bytes).map_err(|unread| Strange::at(number, unread))?;
+            let before = read.bytes.len();
+            match add(line, &mut read.bytes) {
+                Ok(()) => read.lines.push(Line { number, before }),
+                Err(unread) => {
+                    read.bytes.truncate(before);
+                    read.strange.push(Strange::at(number, unread));
+                }
             }
         }
-        if read.lines.is_empty() {
-            return Err(Strange::Nothing);
+        match (read.lines.is_empty(), read.strange.first()) {
+            (true, None) => Err(Strange::Nothing),
+            (true, Some(first)) => Err(first.clone()),
+            (false, _) => Ok(read),
         }
-        Ok(read)
+    }
+
+    // Whether a line is a frame alone.
+    fn has_one_alone(&self) -> bool {
+        (0..self.lines.len()).any(|line| self.begins(line) && is_frame(self.of_lines(line, line + 1)))
     }
 
     // The bytes of the lines from one to before another.
@@ -65,7 +77,7 @@ impl Read {
     // each has one, if one at least is a frame alone, or if most of them begin as a frame does.
     fn starts(&self) -> Vec<usize> {
         let count = self.lines.len();
-        let some_alone = (0..count).any(|line| self.begins(line) && is_frame(self.of_lines(line, line + 1)));
+        let some_alone = self.has_one_alone();
         if !some_alone && is_frame(&self.bytes) {
             return vec![0];
         }
@@ -107,6 +119,15 @@ impl Read {
     fn begins(&self, line: usize) -> bool {
         let from = &self.bytes[self.lines[line].before..];
         from.len() >= 16 && from[..13].iter().all(|byte| byte & 1 == 0) && from[13] & 1 == 1 && from[14] == 0x03
+    }
+}
+
+// Adds the bytes of a line.
+fn add<'a>(line: &'a str, bytes: &mut Vec<u8>) -> Result<(), Unread<'a>> {
+    let digits = line.split('#').next().unwrap_or(line).trim_end();
+    match dump::place_in(digits) {
+        Some(place) => Err((place, Why::Start)),
+        None => digits.split_whitespace().try_for_each(|word| pairs::add(word, bytes)),
     }
 }
 

@@ -8,8 +8,6 @@ mod text;
 pub use strange::Strange;
 pub use text::as_text;
 
-use super::files::MOST;
-
 /// The frames in an input.
 #[derive(Clone, Debug, PartialEq, Eq)]
 pub struct Frames {
@@ -17,6 +15,8 @@ pub struct Frames {
     pub form: Form,
     /// The frames, in their order. There is one at least.
     pub frames: Vec<Heard>,
+    /// The lines that cannot be read, beside others that are a frame each.
+    pub strange: Vec<Strange>,
 }
 
 /// How an input has its frames.
@@ -53,18 +53,20 @@ pub struct Heard {
 /// The frames in the bytes of an input. A text is read as hexadecimal or as a dump; what is none is one raw frame.
 pub fn frames(bytes: &[u8]) -> Result<Frames, Strange> {
     let text = match as_text(bytes) {
-        None => return Ok(Frames { form: Form::Raw, frames: vec![Heard { bytes: bytes.to_vec(), line: None }] }),
-        Some(_) if bytes.len() > MOST => return Err(Strange::Long),
+        None => {
+            let only = Heard { bytes: bytes.to_vec(), line: None };
+            return Ok(Frames { form: Form::Raw, frames: vec![only], strange: Vec::new() });
+        }
         Some(text) => text,
     };
-    let (form, mut frames) = match dump::begins(&text) {
-        true => (Form::Dump, dump::frames(&text)?),
-        false => (Form::Hexadecimal, lines::frames(&text)?),
+    let mut read = match dump::begins(&text) {
+        true => Frames { form: Form::Dump, frames: dump::frames(&text)?, strange: Vec::new() },
+        false => lines::frames(&text)?,
     };
-    if let [only] = &mut frames[..] {
+    if let ([only], []) = (&mut read.frames[..], &read.strange[..]) {
         only.line = None;
     }
-    Ok(Frames { form, frames })
+    Ok(read)
 }
 
 #[cfg(test)]

@@ -1,6 +1,5 @@
 //! Why a text cannot be read: the word in the way, its line, and what is wrong with it.
 use super::super::bytes::counted;
-use super::super::files::MOST;
 use super::super::names::escaped;
 use std::fmt;
 
@@ -14,8 +13,6 @@ pub enum Strange {
     Word { line: usize, word: String, why: Why },
     /// It has comments, and no frame.
     Nothing,
-    /// It has more bytes than are read.
-    Long,
 }
 
 /// A word that cannot be read, and why.
@@ -80,7 +77,6 @@ impl fmt::Display for Strange {
                 write!(f, "is a {}, and `{}` in line {line} {}", why.form(), escaped(word), why.words(word))
             }
             Strange::Nothing => f.write_str("is a text, and has no frame in it"),
-            Strange::Long => write!(f, "is a text of more than {MOST} bytes: give it in parts"),
         }
     }
 }

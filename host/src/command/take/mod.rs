@@ -73,14 +73,12 @@ fn frames(source: &Source) -> Vec<Heard> {
         Err(error) => unread(format!("cannot be read: {error}")),
         Ok(bytes) => match input::frames(&bytes) {
             Err(strange) => unread(strange.to_string()),
-            Ok(read) => read
-                .frames
-                .into_iter()
-                .map(|one| Heard {
-                    name: one.line.map_or(source.to_string(), |line| format!("{source} line {line}")),
-                    frame: Ok(one.bytes),
-                })
-                .collect(),
+            Ok(read) => {
+                let name =
+                    |line: Option<usize>| line.map_or(source.to_string(), |line| format!("{source} line {line}"));
+                let heard = read.frames.into_iter().map(|one| Heard { name: name(one.line), frame: Ok(one.bytes) });
+                heard.chain(read.strange.iter().flat_map(|strange| unread(strange.to_string()))).collect()
+            }
         },
     }
 }

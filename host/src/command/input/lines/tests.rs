@@ -11,7 +11,8 @@ const FIGURES: [&str; 2] = [
 // The frames of a text, each with its line.
 fn read(text: &str) -> Vec<(usize, Vec<u8>)> {
     let heard = frames(text).unwrap_or_else(|strange| panic!("{text}: {strange}"));
-    heard.into_iter().map(|heard| (heard.line.expect("a line"), heard.bytes)).collect()
+    assert_eq!(heard.strange, [], "{text}");
+    heard.frames.into_iter().map(|heard| (heard.line.expect("a line"), heard.bytes)).collect()
 }
 
 // Bytes in lines of a width.
@@ -194,5 +195,27 @@ fn every_good_line_is_found() {
         for (index, (frame, is_good)) in lines.into_iter().enumerate() {
             assert!(!is_good || found.contains(&(index + 1, frame)), "line {} of\n{text}", index + 1);
         }
+    }
+}
+
+#[test]
+fn a_line_that_cannot_be_read_takes_nothing_from_the_others() {
+    let (one, two) = (piece(0, b"ABCD"), piece(4, b"EFGH"));
+    let text = format!("{}heard at noon\n{}A2 A\n", line(&one), line(&two));
+    let read = frames(&text).expect("two frames");
+    let lines: Vec<(Option<usize>, &[u8])> = read.frames.iter().map(|one| (one.line, &one.bytes[..])).collect();
+    assert_eq!(lines, [(Some(1), &one[..]), (Some(3), &two[..])]);
+    let strange: Vec<String> = read.strange.iter().map(Strange::to_string).collect();
+    let pair = "is a text, and `heard` in line 2 is no pair of hexadecimal digits";
+    assert_eq!(strange, [pair, "is a text, and `A` in line 4 has 1 digit, an odd count"]);
+    // one frame, and a line that is none
+    assert_eq!(frames(&format!("{}O2\n", line(&one))).expect("a frame").frames.len(), 1);
+    // in a frame of several lines any line may be a part of it, and so may one beside frames that are all damaged
+    for text in [
+        wrapped(&one, 16) + "O2\n",
+        wrapped(&one, 16).replacen("AA", "AO", 1),
+        line(&with(&one, 26, 0)) + "O2\n" + &line(&with(&two, 26, 0)),
+    ] {
+        assert!(matches!(frames(&text), Err(Strange::Word { .. })), "{text}");
     }
 }
