@@ -3,6 +3,7 @@ use super::addresses::{self, Role};
 use super::fields::Kind;
 use super::frames::INFORMATION;
 use super::records;
+use crate::command::input::as_text;
 use thoweldeck::{remainder, Entry, Piece, Reception, Request};
 
 /// The kind that a frame is accepted as. No frame is accepted as two.
@@ -120,11 +121,9 @@ pub fn known(bytes: &[u8]) -> Option<(&'static str, &'static str)> {
     known.map(|(.., what, hint)| (*what, *hint)).or_else(|| text(bytes))
 }
 
-// A text, of more than the characters that hexadecimal is written with.
+// A text. One in hexadecimal was read as the bytes that it says.
 fn text(bytes: &[u8]) -> Option<(&'static str, &'static str)> {
-    let text = std::str::from_utf8(bytes).ok()?;
-    let is_text = !text.is_empty() && text.chars().all(|c| !c.is_control() || c.is_whitespace());
-    Some(("a text", ": in a text, a frame is written in hexadecimal")).filter(|_| is_text)
+    as_text(bytes).map(|_| ("a text", ": in a text, a frame is written in hexadecimal"))
 }
 
 #[cfg(test)]
