@@ -71,7 +71,7 @@ fn opened(path: &Path) -> io::Result<File> {
     if matches!(fs::symlink_metadata(path), Ok(there) if !there.is_file()) {
         return Err(io::Error::new(ErrorKind::Other, "it is no plain file"));
     }
-    match OpenOptions::new().write(true).create(true).open(path) {
+    match OpenOptions::new().write(true).create(true).truncate(false).open(path) {
         Err(error) if error.kind() == ErrorKind::PermissionDenied => File::open(path).map_err(|_| error),
         opened => opened,
     }

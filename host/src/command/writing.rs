@@ -177,7 +177,7 @@ mod tests {
     use super::*;
     use std::cell::RefCell;
 
-    thread_local!(static STEPS: RefCell<Vec<&'static str>> = RefCell::new(Vec::new()));
+    thread_local!(static STEPS: RefCell<Vec<&'static str>> = const { RefCell::new(Vec::new()) });
 
     pub fn noted(step: &'static str) {
         STEPS.with(|steps| steps.borrow_mut().push(step));
