@@ -50,8 +50,8 @@
 //
 // What all of it adds up to is the customer's three demands: they stand in `specs/Demand1.antt`,
 // `specs/Demand2.antt` and `specs/Demand3.antt`, and are proved in `proofs/` under the same names; the
-// orders stand as 01 prints them in `specs/Orders.antt`, its worked cases in `specs/Cases.antt`. That no
-// second answer meets a promise is in `proofs/OnlyOne.antt` of each crate.
+// orders stand as 01, the customer's rules, prints them in `specs/Orders.antt`, its worked cases in
+// `specs/Cases.antt`. That no second answer meets a promise is in `proofs/OnlyOne.antt` of each crate.
 pub mod boundary;
 pub mod entry_boundary;
 pub mod header_boundary;

@@ -24,6 +24,15 @@ pub fn counted(count: usize, thing: &str) -> String {
     format!("{count} {thing}{}", if count == 1 { "" } else { "s" })
 }
 
+/// The positions from one up to another, which is behind the last: `position 4`, `positions 4 to 7`.
+pub fn positions(start: u64, end: u64) -> String {
+    if start + 1 == end {
+        format!("position {start}")
+    } else {
+        format!("positions {start} to {}", end - 1)
+    }
+}
+
 /// A number of bytes, least significant byte first. There are at most eight.
 pub fn number(bytes: &[u8]) -> u64 {
     bytes.iter().rev().fold(0, |above, byte| above * 256 + u64::from(*byte))

@@ -68,7 +68,12 @@ impl fmt::Display for Source {
 
 /// The reception in a record's file. Refuses 13.
 pub fn record(path: &Path) -> Result<Reception, Failure> {
-    Source::File(path.to_path_buf()).record()
+    match Source::of(path) {
+        Source::Standard => Err(Failure::Trouble(
+            "`-` is standard input, which `take`, `explain`, `holes` and `show` read, and no other part".to_string(),
+        )),
+        file => file.record(),
+    }
 }
 
 /// Whether two paths lead to one file.

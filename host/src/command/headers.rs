@@ -17,10 +17,10 @@ pub fn name(header: &Header) -> String {
     }
 }
 
-/// The sum of a body's bytes, which item 09 tells: modulo 65,536. (Document 002 says XOR, as it does for the header's
-/// sum, where its own bytes show a sum.)
-pub fn sum(body: &[u8]) -> u16 {
-    body.iter().fold(0, |sum: u16, byte| sum.wrapping_add(u16::from(*byte)))
+/// The sum of bytes modulo 65,536, as item 09 tells it of a body and item 0A of a header. (Document 002 says XOR of both;
+/// for the header its own bytes show a sum.)
+pub fn sum(bytes: &[u8]) -> u16 {
+    bytes.iter().fold(0, |sum: u16, byte| sum.wrapping_add(u16::from(*byte)))
 }
 
 #[cfg(test)]

@@ -117,7 +117,7 @@ thoweldeck list FOLDER
 
 const END: &str = "\
 Nothing is lost: what is written goes into a new file, which takes the name once it is whole, and
-runs that write one record wait for each other.
+runs that write one record wait for each other, half a minute at most.
 
 The exit status:
    0  It is done. In `take`: all that was named was read, and what could be used is in the record.
@@ -125,7 +125,7 @@ The exit status:
    1  Something was refused or left alone, as the lines say. In `take`: something that was named could
       not be read; what could be used of the rest is in the record.
    2  The words make no sense or do not say enough, or a file cannot be read or written; the line says
-      which.
+      which. In `take`: nothing was taken, whatever the cause.
    3  In `take`: a piece of the record's own file does not fit the record (reasons 10 and 11), so one of
       the two is not what it says. What could be used of the rest is in the record.
 

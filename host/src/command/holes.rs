@@ -1,5 +1,5 @@
 //! `thoweldeck holes RECORD`: what is missing, as a list and as a picture.
-use super::bytes::counted;
+use super::bytes::{counted, positions};
 use super::files::Source;
 use super::words::Words;
 use super::{End, Ended, Out};
@@ -18,7 +18,12 @@ pub fn run(words: Words, out: &mut Out<'_>) -> End {
         out.line("\n start  length  missing");
     }
     for hole in &holes {
-        out.line(format!("{:6}  {:6}  {}", hole.start, hole.length, positions(*hole)));
+        out.line(format!(
+            "{:6}  {:6}  {}",
+            hole.start,
+            hole.length,
+            positions(u64::from(hole.start), u64::from(hole.end()))
+        ));
     }
     out.line(format!("\n[{}]", bar(&reception, WIDTH)));
     out.line(legend(reception.length()));
@@ -33,15 +38,6 @@ pub fn summary(reception: &Reception) -> String {
         holes => {
             format!("file {number}, {held} of {} held, {}", counted(length as usize, "byte"), counted(holes, "hole"))
         }
-    }
-}
-
-// The positions of a hole, first and last.
-fn positions(hole: Hole) -> String {
-    if hole.length == 1 {
-        format!("position {}", hole.start)
-    } else {
-        format!("positions {} to {}", hole.start, hole.end() - 1)
     }
 }
 

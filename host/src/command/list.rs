@@ -9,12 +9,12 @@ use super::{End, Ended, Failure, Out};
 use std::fs;
 use std::os::unix::ffi::OsStrExt;
 use std::path::{Path, PathBuf};
-use thoweldeck::Reception;
+use thoweldeck::{Reception, LONGEST};
 
 // How many characters a picture has at most.
 const WIDTH: u32 = 32;
-// No record is longer.
-const LONGEST_RECORD: u64 = 36_884;
+// No record is longer: number and length in 14 bytes, the map and the bytes of the longest file, each behind 3.
+const LONGEST_RECORD: u64 = 20 + (LONGEST / 8 + LONGEST) as u64;
 
 pub fn run(words: Words, out: &mut Out<'_>) -> End {
     let [folder] = words.exactly(["a folder"])?;
@@ -59,19 +59,22 @@ fn records(folder: &Path) -> Result<Vec<Found>, Failure> {
 
 fn found(path: &Path) -> Option<Found> {
     let is_named = path.extension().map_or(false, |extension| extension == "record");
-    // what is longer than any record, or no file at all, is not read unless its name says that it is one
-    let may_be = fs::metadata(path).map_or(false, |data| data.is_file() && data.len() <= LONGEST_RECORD);
-    if !is_named && !may_be {
+    let (is_file, size) = fs::metadata(path).map_or((true, 0), |data| (data.is_file(), data.len()));
+    // what is longer than any record, or no plain file, is not read unless its name says that it is a record
+    if !is_named && (!is_file || size > LONGEST_RECORD) {
         return None;
     }
-    let reception = match Source::File(path.to_path_buf()).bytes() {
-        Err(error) => Err(format!("cannot be read: {error}")),
-        Ok(bytes) => Reception::load(&bytes).map_err(|_| format!("refused, {}", Cause::of_record(&bytes))),
-    };
+    let reception = if is_file { loaded(path) } else { Err("is no plain file".to_string()) };
     if reception.is_err() && !is_named {
         return None;
     }
     Some(Found { name: shown(path.file_name()?), reception })
+}
+
+// The reception in a record's file, or why there is none.
+fn loaded(path: &Path) -> Result<Reception, String> {
+    let bytes = Source::File(path.to_path_buf()).bytes().map_err(|error| format!("cannot be read: {error}"))?;
+    Reception::load(&bytes).map_err(|_| format!("refused, {}", Cause::of_record(&bytes)))
 }
 
 // A reception in a line: its file's number, name, length, how much of it is held, its holes and a picture.

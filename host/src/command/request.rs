@@ -1,12 +1,13 @@
 //! `thoweldeck request RECORD --from CALL --to CALL -o DIR`: the frames that ask for what is missing, or for the start.
 use super::bytes::counted;
 use super::causes::Cause;
+use super::explain::{said, Kind};
 use super::names::{escaped, shown};
 use super::words::Words;
 use super::{files, End, Ended, Failure, Out};
 use std::fs;
 use std::path::Path;
-use thoweldeck::{Address, Asks, Request};
+use thoweldeck::{Address, Request};
 
 pub fn run(words: Words, out: &mut Out<'_>) -> End {
     let (from, to) = (address(&words, "--from")?, address(&words, "--to")?);
@@ -29,8 +30,9 @@ pub fn run(words: Words, out: &mut Out<'_>) -> End {
     make_folder(&folder)?;
     for (index, frame) in frames.iter().enumerate() {
         let name = folder.join(format!("request-{:03}.frame", index + 1));
-        files::write_another(&name, frame)?;
-        out.line(format!("{}: {}, {from} to {to}, {}", shown(&name), counted(frame.len(), "byte"), asked(frame)?));
+        files::write_another(&name, frame)?.iter().for_each(|note| out.line(note));
+        let asks = said(Kind::Request, frame).map_err(|reason| Failure::Refused(shown(&name), Cause::from(reason)))?;
+        out.line(format!("{}: {}, {from} to {to}, {asks}", shown(&name), counted(frame.len(), "byte")));
     }
     Ok(Ended::Well)
 }
@@ -51,19 +53,6 @@ fn file_to_start(words: &Words) -> Result<u32, Failure> {
 fn address(words: &Words, option: &str) -> Result<Address, Failure> {
     let text = words.text(option)?;
     text.parse().map_err(|_| Failure::Refused(format!("`{option} {}`", escaped(&text)), Cause::of_call(&text)))
-}
-
-// What a request asks for, read from its frame.
-fn asked(frame: &[u8]) -> Result<String, Failure> {
-    let request =
-        Request::read(frame).map_err(|reason| Failure::Refused("the request".to_string(), Cause::from(reason)))?;
-    Ok(match request.asks {
-        Asks::Start => format!("asks for the start of file {}", request.number),
-        Asks::Holes(holes) => {
-            let missing: u32 = holes.iter().map(|hole| hole.length).sum();
-            format!("asks for {} in {}", counted(missing as usize, "byte"), counted(holes.len(), "hole"))
-        }
-    })
 }
 
 // The folder for the frames. One that has requests already is left alone: what was asked for before would be sent

@@ -21,7 +21,7 @@ pub fn run(words: Words, out: &mut Out<'_>) -> End {
         None if is_body => return Err(stopped("its file has no header that says where the body starts")),
         _ => file,
     };
-    files::write_another(&target, saved)?;
+    files::write_another(&target, saved)?.iter().for_each(|note| out.line(note));
     let what = if is_body { "the body of file" } else { "file" };
     out.line(format!("{}: {what} {}, {}", shown(&target), reception.number(), counted(saved.len(), "byte")));
     out.line(agrees(&reception, file, header.as_ref()));
@@ -51,6 +51,6 @@ fn agrees(reception: &Reception, file: &[u8], header: Option<&Header>) -> String
     if said == sum {
         format!("its header says `{name}`, and the body's bytes have the sum {sum:04X}, as item 09 says")
     } else {
-        format!("its header says `{name}`, and the body's bytes have the sum {sum:04X}, where item 09 says {said:04X}: the body is not the one that was sent")
+        format!("its header says `{name}`, and the body's bytes have the sum {sum:04X}, where item 09 says {said:04X}: header and body do not belong together")
     }
 }

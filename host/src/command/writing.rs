@@ -5,6 +5,7 @@ use super::paths::{beside, end_of, folder};
 use super::Failure;
 use std::fs::{self, File, Metadata, OpenOptions};
 use std::io::{self, ErrorKind, Write};
+use std::os::unix::ffi::OsStrExt;
 use std::os::unix::fs::{MetadataExt, OpenOptionsExt};
 use std::path::{Path, PathBuf};
 
@@ -20,6 +21,9 @@ pub struct Target {
 impl Target {
     /// Waits until no other run has the file that a name leads to. Where it may not be written, nothing is made.
     pub fn lock(name: &Path) -> Result<Target, Failure> {
+        if name.as_os_str().as_bytes().ends_with(b"/") || name.as_os_str() == "-" {
+            return Err(Failure::Trouble(format!("{}: is no name of a file to write", shown(name))));
+        }
         let path = end_of(name)?;
         let new = beside(&path, "new")?;
         if !folder(&path).is_dir() {
@@ -44,35 +48,56 @@ impl Target {
         Ok(())
     }
 
-    /// Writes the file where it is not there yet, and over nothing.
-    pub fn create(&self, bytes: &[u8]) -> Result<(), Failure> {
+    /// Writes the file where it is not there yet, and over nothing. Answers lines for the user on what went otherwise than
+    /// it should once the file had its name.
+    pub fn create(&self, bytes: &[u8]) -> Result<Vec<String>, Failure> {
         self.is_free()?;
         self.clear()?;
         self.done(&self.new, written(&self.new, bytes, None))?;
-        match linked(&self.new, &self.path) {
+        let removed = match linked(&self.new, &self.path) {
             Err(error) if error.kind() == ErrorKind::AlreadyExists => {
                 let _ = fs::remove_file(&self.new);
                 return Err(there(&self.name));
             }
             // a disk that has no second names
-            Err(_) => self.done(&self.new, renamed(&self.new, &self.path))?,
-            Ok(()) => self.done(&self.new, fs::remove_file(&self.new))?,
-        }
-        self.done(folder(&self.path), folder_synced(folder(&self.path)))
+            Err(_) => {
+                self.done(&self.new, renamed(&self.new, &self.path))?;
+                Ok(())
+            }
+            Ok(()) => fs::remove_file(&self.new),
+        };
+        let left = removed.err().map(|error| format!("{}: is left behind: {error}", shown(&self.new)));
+        Ok(left.into_iter().chain(self.folder_noted()).collect())
     }
 
-    /// Writes the record again, with the permissions that it has. Answers a line for the user where the old one has
-    /// another name, and so is still there.
-    pub fn replace(&self, bytes: &[u8]) -> Result<Option<String>, Failure> {
+    /// Writes the record again, with the permissions that it has. Answers lines for the user on what is not as before:
+    /// where the old one has another name, and so is still there, and where it was another user's.
+    pub fn replace(&self, bytes: &[u8]) -> Result<Vec<String>, Failure> {
         self.clear()?;
         // asked again, since it may have changed while another run was waited for
         let old = replaceable(&self.name, &self.path)?;
         self.done(&self.new, written(&self.new, bytes, old.as_ref()))?;
+        let owner = fs::metadata(&self.new).map(|new| new.uid()).ok();
         self.done(&self.new, renamed(&self.new, &self.path))?;
-        self.done(folder(&self.path), folder_synced(folder(&self.path)))?;
-        Ok(old.filter(|old| old.nlink() > 1).map(|_| {
-            format!("{}: had a second name (a hard link), which keeps the record as it was", shown(&self.name))
-        }))
+        let notes = old.map_or(Vec::new(), |old| self.notes(&old, owner));
+        Ok(notes.into_iter().chain(self.folder_noted()).collect())
+    }
+
+    // What is not as it was before the record was replaced.
+    fn notes(&self, old: &Metadata, owner: Option<u32>) -> Vec<String> {
+        let name = shown(&self.name);
+        let linked = Some(format!("{name}: had a second name (a hard link), which keeps the record as it was"));
+        let owned = owner
+            .filter(|owner| *owner != old.uid())
+            .map(|owner| format!("{name}: was user {}'s, and is user {owner}'s now, who wrote it again", old.uid()));
+        linked.filter(|_| old.nlink() > 1).into_iter().chain(owned).collect()
+    }
+
+    // Brings the name to the disk. Where that fails the file is written all the same, and a power cut could still lose it.
+    fn folder_noted(&self) -> Option<String> {
+        let (folder, name) = (folder(&self.path), shown(&self.name));
+        let error = folder_synced(folder).err()?;
+        Some(format!("{name}: is written, and its folder {} could not be brought to the disk: {error}", shown(folder)))
     }
 
     // Removes the new file that a killed run has left. It is the work of nobody: who writes it has the lock.
@@ -97,8 +122,8 @@ impl Target {
     }
 }
 
-/// Writes a file that is not there yet: whole or not at all, and over nothing.
-pub fn write_another(name: &Path, bytes: &[u8]) -> Result<(), Failure> {
+/// Writes a file that is not there yet: whole or not at all, and over nothing. Answers lines as [`Target::create`] does.
+pub fn write_another(name: &Path, bytes: &[u8]) -> Result<Vec<String>, Failure> {
     if name.metadata().is_ok() {
         return Err(there(name));
     }
@@ -200,7 +225,7 @@ mod tests {
         let target = Target::lock(&record).expect("the lock");
         target.create(b"first").expect("it is written");
         assert_eq!(steps(), order);
-        assert_eq!(target.replace(b"second").expect("it is written again"), None);
+        assert_eq!(target.replace(b"second").expect("it is written again"), Vec::<String>::new());
         assert_eq!(steps(), order);
         assert_eq!(fs::read(&record).expect("it is there"), b"second");
         fs::remove_file(&record).expect("the file goes");
@@ -217,6 +242,19 @@ mod tests {
         let failure = target.replace(b"second").expect_err("it is protected");
         assert!(matches!(&failure, Failure::Stopped(line) if line.contains("is write-protected")), "{failure}");
         assert_eq!(fs::read(&record).expect("it is there"), b"first");
+        fs::remove_file(&record).expect("the file goes");
+    }
+
+    #[test]
+    fn what_is_not_as_before_is_told() {
+        let record = record("notes");
+        fs::write(&record, b"first").expect("a file");
+        let target = Target::lock(&record).expect("the lock");
+        let (old, name) = (fs::metadata(&record).expect("the file"), shown(&record));
+        assert_eq!(target.notes(&old, Some(old.uid())), Vec::<String>::new());
+        let other = old.uid() + 1;
+        let line = format!("{name}: was user {}'s, and is user {other}'s now, who wrote it again", old.uid());
+        assert_eq!(target.notes(&old, Some(other)), [line]);
         fs::remove_file(&record).expect("the file goes");
     }
 

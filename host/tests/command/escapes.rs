@@ -36,8 +36,9 @@ fn names_of_files_are_shown_with_escapes() {
         (&["request", "*a", "--from", "VA3SFL", "--to", "QST", "-o", "*1"], "*1: cannot be made", 2),
         (&["save", "*a", "-o", "*file"], "*a: file 7, 4 of 8 bytes held, 1 hole", 1),
         (&["save", "*c", "-o", "*file"], "*file: file 7, 8 bytes", 0),
+        (&["list", "."], "\n*a        ", 0),
         (&["holes", "*no"], "*no: refused, reason 13: ", 1),
-        (&["take", "*no", "*1"], "*no: refused, reason 13: ", 1),
+        (&["take", "*no", "*1"], "*no: refused, reason 13: ", 2),
         (&["explain", "*absent"], "*absent: cannot be read", 2),
         (&["take", "*absent/a", "*1", "--length", "8"], "*absent/a: cannot be written: there is no folder *absent", 2),
     ] {

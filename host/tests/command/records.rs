@@ -65,7 +65,7 @@ fn a_new_record_needs_a_number_and_a_length() {
     let ran = room.run(&["take", "a.record", "1"]);
     assert_eq!(ran.status, 2);
     assert!(ran.errors.contains("the file's length is not known"), "{ran:?}");
-    for (length, status) in [("0", 1), ("1", 3), ("4", 0), ("32768", 0), ("32769", 1), ("4294967295", 1)] {
+    for (length, status) in [("0", 2), ("1", 3), ("4", 0), ("32768", 0), ("32769", 2), ("4294967295", 2)] {
         let name = format!("{length}.record");
         let ran = room.run(&["take", &name, "1", "--length", length]);
         assert_eq!(ran.status, status, "{length}: {ran:?}");
@@ -77,9 +77,9 @@ fn a_new_record_needs_a_number_and_a_length() {
     let ran = room.run(&["take", "b.record", "1", "--length", "20", "--number", "9"]);
     assert!(ran.status == 0 && ran.text.contains("1: refused, reason 9: "), "{ran:?}");
     let ran = room.run(&["take", "4.record", "1", "--length", "5"]);
-    assert!(ran.status == 1 && ran.errors.contains("refused, reason 9: its file has 4 bytes, and not 5"), "{ran:?}");
+    assert!(ran.status == 2 && ran.errors.contains("refused, reason 9: its file has 4 bytes, and not 5"), "{ran:?}");
     let ran = room.run(&["take", "4.record", "1", "--number", "8"]);
-    assert!(ran.status == 1 && ran.errors.contains("refused, reason 9: it is of file 7, and not"), "{ran:?}");
+    assert!(ran.status == 2 && ran.errors.contains("refused, reason 9: it is of file 7, and not"), "{ran:?}");
 }
 
 #[test]
@@ -99,7 +99,7 @@ fn no_record_is_told_and_left() {
             &["request", name, "--from", "VA3SFL-0", "--to", "UOSAT5-11", "-o", "frames"],
         ] {
             let ran = room.run(words);
-            assert_eq!(ran.status, 1, "{words:?}");
+            assert_eq!(ran.status, if words[0] == "take" { 2 } else { 1 }, "{words:?}");
             assert!(ran.errors.starts_with(&format!("thoweldeck: {name}: refused, reason 13: ")), "{words:?} {ran:?}");
             assert_eq!(room.read(name), before);
         }
@@ -154,6 +154,20 @@ fn three_records_are_joined() {
     assert_eq!(room.read("c"), room.read("all"));
     let ran = room.run(&["join", "a", "-o", "alone"]);
     assert_eq!((ran.status, room.read("alone")), (2, None), "one is not enough: {ran:?}");
+}
+
+#[test]
+fn the_record_that_does_not_fit_is_named() {
+    let room = Room::new();
+    for (name, offset, bytes) in [("a", 0, b"ABCD"), ("b", 8, b"EFGH"), ("c", 8, b"EFXH")] {
+        room.write("1", &piece(7, offset, bytes));
+        assert_eq!(room.run(&["take", name, "1", "--length", "20"]).status, 0);
+    }
+    let ran = room.run(&["join", "a", "b", "c", "-o", "all"]);
+    let said =
+        "b joined with c: refused, reason 11: position 10 is held with 47 in the first, and with 58 in the second";
+    assert_eq!((ran.status, ran.errors.as_str()), (1, format!("thoweldeck: {said}\n").as_str()), "{ran:?}");
+    assert_eq!(room.read("all"), None);
 }
 
 #[test]
@@ -260,10 +274,12 @@ fn fifty_holes_take_two_requests() {
     assert_eq!(room.record("a.record").holes().count(), 50);
     let ran = room.run(&["request", "a.record", "--from", "VA3SFL", "--to", "UOSAT5-11", "-o", "frames"]);
     assert_eq!(ran.status, 0);
+    assert!(ran.text.contains(
+        "frames/request-001.frame: 268 bytes, VA3SFL-0 to UOSAT5-11, asks for 49 bytes of file 7, in 49 holes"
+    ));
     assert!(ran
         .text
-        .contains("frames/request-001.frame: 268 bytes, VA3SFL-0 to UOSAT5-11, asks for 49 bytes in 49 holes"));
-    assert!(ran.text.contains("frames/request-002.frame: 28 bytes, VA3SFL-0 to UOSAT5-11, asks for 1 byte in 1 hole"));
+        .contains("frames/request-002.frame: 28 bytes, VA3SFL-0 to UOSAT5-11, asks for 1 byte of file 7, in 1 hole"));
 }
 
 #[test]

@@ -31,7 +31,7 @@ fn a_saved_file_is_compared_with_its_header() {
     let ran = room.run(&["save", "changed", "-o", "changed.file"]);
     assert_eq!(ran.status, 0, "{ran:?}");
     assert!(
-        ran.text.contains("have the sum 790F, where item 09 says 790E: the body is not the one that was sent\n"),
+        ran.text.contains("have the sum 790F, where item 09 says 790E: header and body do not belong together\n"),
         "{ran:?}"
     );
     assert_eq!(room.read("changed.file"), Some(changed));
@@ -84,6 +84,7 @@ fn a_folder_is_listed() {
     kept(&room, "station/whole.record", 1201, &file);
     room.write("station/broken.record", b"\x01\x04\0\x07");
     room.write("station/notes.txt", b"notes of the pass");
+    assert_eq!(room.shell("mkfifo station/pipe.record station/pipe").status, 0);
     room.write("station/.late.new", &room.read("station/late").expect("a record"));
     let ran = room.run(&["list", "station"]);
     assert_eq!(ran.status, 1, "a file that should be a record is none: {ran:?}");
@@ -92,10 +93,11 @@ fn a_folder_is_listed() {
     let late = "late                 1201  -               2358    47%      3  [.........+####+.+##########+....]";
     assert_eq!(lines[2], late, "{ran:?}");
     let survey = "survey.record        1201  SURVEY.TXT      2358    58%      2  [#########+...+##+.........+#####]";
-    assert_eq!(lines[3], survey, "{ran:?}");
+    assert_eq!(lines[3], "pipe.record    is no plain file", "{ran:?}");
+    assert_eq!(lines[4], survey, "{ran:?}");
     let whole = "whole.record         1201  SURVEY.TXT      2358   100%      0  [################################]";
-    assert_eq!(lines[4], whole, "{ran:?}");
-    assert_eq!(lines.len(), 5, "{ran:?}");
+    assert_eq!(lines[5], whole, "{ran:?}");
+    assert_eq!(lines.len(), 6, "{ran:?}");
     let ran = room.run(&["list", "samples/figures"]);
     assert_eq!((ran.status, ran.text.as_str()), (0, "samples/figures: has no records\n"));
     let ran = room.run(&["list", "absent"]);

@@ -115,7 +115,8 @@ fn the_header_in_the_first_piece_tells_the_length() {
     room.write("cut", &piece(1201, 0, &first));
     let ran = room.run(&["take", "b.record", "cut"]);
     assert_eq!((ran.status, room.read("b.record")), (2, None), "{ran:?}");
-    assert!(ran.errors.contains("the file's length is not known"), "{ran:?}");
+    let said = "the file's length is not known: the first piece of file 1201 has no whole file header";
+    assert!(ran.errors.contains(said), "{ran:?}");
     // nor does the header of a piece elsewhere, or one with another file's number in it
     let whole = room.read("samples/survey/whole.file").expect("a sample")[..100].to_vec();
     for frame in [piece(1201, 1, &whole), piece(1202, 0, &whole)] {
@@ -194,6 +195,35 @@ fn an_input_without_end_is_told() {
     assert_eq!(ran.status, 1, "{ran:?}");
     assert!(ran.text.contains("standard input: cannot be read: it is longer than 16 MiB\n"), "{ran:?}");
     assert_eq!(room.record("a.record").held(), 4);
+}
+
+#[test]
+fn where_nothing_is_taken_the_status_says_so() {
+    let room = Room::new();
+    room.write("1", &piece(7, 0, b"ABCD"));
+    room.write("none.record", b"this is no record");
+    assert_eq!(room.run(&["take", "a.record", "1", "--length", "20"]).status, 0);
+    assert_eq!(room.run(&["take", "held.record", "1", "--length", "20"]).status, 0);
+    assert_eq!(room.shell("chmod a-w held.record").status, 0);
+    for words in [
+        &["take", "none.record", "1"][..],
+        &["take", "held.record", "1"],
+        &["take", "a.record", "1", "--number", "8"],
+        &["take", "a.record", "1", "--length", "21"],
+        &["take", "b.record", "1", "--length", "40000"],
+        &["take", "b.record", "1", "absent"],
+    ] {
+        let ran = room.run(words);
+        assert_eq!((ran.status, ran.errors.is_empty()), (2, false), "{words:?}: {ran:?}");
+    }
+}
+
+#[test]
+fn frames_with_the_links_check_left_on_are_told() {
+    let room = Room::new();
+    room.write("1", &[&piece(7, 0, b"ABCD")[..], &[0x12, 0x34]].concat());
+    let ran = room.run(&["take", "a.record", "1", "--number", "7", "--length", "20"]);
+    assert!(ran.text.contains("; without its last two bytes it is a file piece"), "{ran:?}");
 }
 
 #[test]

@@ -1,6 +1,7 @@
 //! What an accepted frame or record says, in a line.
-use super::fields::{positions, Kind};
-use crate::command::bytes::{characters, counted};
+use super::fields::Kind;
+use crate::command::bytes::{counted, positions};
+use crate::command::headers;
 use crate::command::holes::summary;
 use thoweldeck::{Asks, Entry, Piece, Reason, Reception, Request};
 
@@ -23,9 +24,8 @@ fn piece_said(piece: &Piece<'_>) -> String {
 
 // What a directory entry says.
 fn entry_said(entry: &Entry<'_>) -> String {
-    let name = characters(&entry.header.name);
     let size = counted(entry.header.size as usize, "byte");
-    format!("file {}, `{}`, has {size}", entry.number, name.trim_end())
+    format!("file {}, `{}`, has {size}", entry.number, headers::name(&entry.header))
 }
 
 // What a request says.

@@ -190,12 +190,3 @@ impl<'a> Walk<'a> {
         self.next_text(self.left().len(), name, |_| meaning.to_string());
     }
 }
-
-/// The positions from one up to another, which is behind the last: `position 4`, `positions 4 to 7`.
-pub fn positions(start: u64, end: u64) -> String {
-    if start + 1 == end {
-        format!("position {start}")
-    } else {
-        format!("positions {start} to {}", end - 1)
-    }
-}

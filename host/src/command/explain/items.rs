@@ -2,10 +2,11 @@
 use super::faults::Fault;
 use super::fields::{Field, Name, Walk};
 use crate::command::bytes::{characters, counted, date, number};
+use crate::command::headers;
 
 /// Walks over the items of a file header.
 pub fn walked(walk: &mut Walk<'_>) {
-    let sum = sum(walk.left());
+    let sum = sum(&walk.left()[..end(walk.left())]);
     walk.next(2, Name::Header, |bytes| {
         if bytes == [0xAA, 0x55] { "AA 55 starts a file header" } else { "a file header starts with AA 55" }.to_string()
     });
@@ -19,9 +20,21 @@ pub fn walked(walk: &mut Walk<'_>) {
     walk.rest(Name::LeftOver, "not a part of the header");
 }
 
+// Where a header ends: behind the item that ends it, or with all bytes where there is none.
+fn end(header: &[u8]) -> usize {
+    let mut place = 2;
+    while let Some([low, high, size]) = header.get(place..place + 3) {
+        place += 3 + usize::from(*size);
+        if (*low, *high) == (0, 0) {
+            break;
+        }
+    }
+    place.min(header.len())
+}
+
 // The sum of a header's bytes, the two data bytes of its item 0A taken as 0.
 fn sum(header: &[u8]) -> u16 {
-    let mut sum = header.iter().fold(0u16, |sum, byte| sum.wrapping_add(u16::from(*byte)));
+    let mut sum = headers::sum(header);
     let mut place = 2;
     while let Some([low, high, size]) = header.get(place..place + 3) {
         if (*low, *high, *size) == (0x0A, 0, 2) {

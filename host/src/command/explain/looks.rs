@@ -1,7 +1,7 @@
 //! What bytes look like that are no frame, and what to do about it.
 use super::addresses::{self, Role};
 use super::fields::Kind;
-use super::frames::INFORMATION;
+use super::frames::{INFORMATION, MOST};
 use super::records;
 use crate::command::input::as_text;
 use thoweldeck::{remainder, Entry, Piece, Reception, Request};
@@ -22,7 +22,7 @@ pub fn accepted_as(frame: &[u8]) -> Option<Kind> {
 /// What bytes are most likely meant to be. Pieces and requests share a protocol.
 pub fn kind(bytes: &[u8]) -> Kind {
     let flags = bytes.get(16).copied().unwrap_or(0);
-    if bytes.starts_with(&records::START) {
+    if is_like_record(bytes) {
         Kind::Record
     } else if let Some(kind) = accepted_as(bytes) {
         kind
@@ -37,10 +37,10 @@ pub fn kind(bytes: &[u8]) -> Kind {
 
 /// A line on bytes that are no frame, with a hint. A frame, damaged or not, needs none.
 pub fn line(bytes: &[u8]) -> Option<String> {
-    if bytes.starts_with(&records::START) {
+    if is_like_record(bytes) {
         let line = match Reception::load(bytes) {
             Ok(_) => "this is a record, and no frame: `thoweldeck holes` and `thoweldeck show` tell what it holds",
-            Err(_) => "this begins as a record does, and no frame begins so",
+            Err(_) => "this looks like a record, and no frame begins so",
         };
         return Some(line.to_string());
     }
@@ -61,11 +61,21 @@ pub fn line(bytes: &[u8]) -> Option<String> {
     Some(line)
 }
 
-/// A line on bytes that are surely no frame, damaged or not: nothing at all, a record, or something else that is known.
+/// A line on bytes that are surely no frame, damaged or not: nothing at all, a record, something else that is known, or
+/// more than a frame has.
 pub fn stray(bytes: &[u8]) -> Option<String> {
-    let is_record = bytes.starts_with(&records::START);
     let is_other = !is_framed(bytes) && (bytes.is_empty() || known(bytes).is_some());
-    line(bytes).filter(|_| is_record || is_other)
+    if is_like_record(bytes) || is_other {
+        return line(bytes);
+    }
+    let (count, most) = (bytes.len(), INFORMATION + MOST);
+    let long = || format!("this has {count} bytes, and a frame has {most} at most: a raw input is one frame");
+    Some(bytes).filter(|_| count > most).map(|bytes| with_link_check(bytes).unwrap_or_else(long))
+}
+
+// Whether bytes begin as a record does, or go on as one behind its number: no frame has these bytes in its addresses.
+fn is_like_record(bytes: &[u8]) -> bool {
+    bytes.starts_with(&records::START) || bytes.get(7..10) == Some(&[0x02, 0x04, 0x00])
 }
 
 // Whether bytes have what is a frame's even if it is damaged: its two addresses, or control and protocol.
@@ -75,8 +85,8 @@ fn is_framed(bytes: &[u8]) -> bool {
     Role::BOTH.iter().all(well_formed) || matches!(head, Some([0x03, 0xBB | 0xBD]))
 }
 
-// The line on a frame that is accepted without its last two bytes.
-fn with_link_check(frame: &[u8]) -> Option<String> {
+/// The line on a frame that is accepted without its last two bytes.
+pub fn with_link_check(frame: &[u8]) -> Option<String> {
     let name = accepted_as(&frame[..frame.len().saturating_sub(2)])?.name();
     Some(format!("without its last two bytes it is {name}: they look like the link's own frame check; remove them"))
 }
@@ -121,9 +131,14 @@ pub fn known(bytes: &[u8]) -> Option<(&'static str, &'static str)> {
     known.map(|(.., what, hint)| (*what, *hint)).or_else(|| text(bytes))
 }
 
-// A text. One in hexadecimal was read as the bytes that it says.
+// A text, in UTF-8 or in an older code, with most of it in plain letters. (One in hexadecimal was read as the bytes that it
+// says.)
 fn text(bytes: &[u8]) -> Option<(&'static str, &'static str)> {
-    as_text(bytes).map(|_| ("a text", ": in a text, a frame is written in hexadecimal"))
+    let is_visible = |byte: &u8| !byte.is_ascii_control() || byte.is_ascii_whitespace();
+    let plain = bytes.iter().filter(|byte| byte.is_ascii()).count();
+    let is_old = !bytes.is_empty() && bytes.iter().all(is_visible) && 4 * plain >= 3 * bytes.len();
+    let is_text = as_text(bytes).is_some() || is_old;
+    Some(("a text", ": in a text, a frame is written in hexadecimal")).filter(|_| is_text)
 }
 
 #[cfg(test)]
@@ -156,7 +171,9 @@ mod tests {
     fn what_is_no_frame_is_told_as_what_it_looks_like() {
         told(b"", "there is nothing in it");
         told(&Reception::open(7, 20).expect("a length").save(), "this is a record, and no frame: `thoweldeck holes`");
-        told(b"\x01\x04\0\x07\0\0\0", "this begins as a record does");
+        told(b"\x01\x04\0\x07\0\0\0", "this looks like a record, and no frame begins so");
+        told(b"\0\x04\0\x07\0\0\0\x02\x04\0\x14\0\0\0", "this looks like a record, and no frame begins so");
+        told(b"geh\xF6rt am Abend\r\n", "this looks like a text, and not like a frame");
         told(b"\xAA\x55\x01\0\x04\x07\0\0\0", "this looks like a received file with its header, and not");
         told(b"\x89PNG\r\n\x1A\n\0\0", "this looks like a picture, and not like a frame");
         told(b"RIFF\0\0\0\0WAVEfmt ", "this looks like a recording of sound, and not like a frame: a modem");
@@ -170,13 +187,16 @@ mod tests {
         // a record whose map has 187 bytes has 03 BB where a frame has control and protocol
         let record = Reception::open(7, 8 * 0xBB).expect("a length").save();
         assert_eq!(record[14..16], [0x03, 0xBB]);
-        for bytes in [&b""[..], &record, &record[..30], b"\xAA\x55\x01\0", b"\x89PNG\r\n", b"notes"] {
+        let two = [PIECE, PIECE].concat();
+        for bytes in [&b""[..], &record, &record[..30], b"\xAA\x55\x01\0", b"\x89PNG\r\n", b"notes", &two, &[0; 272]] {
             assert!(stray(bytes).is_some(), "{bytes:02X?}");
         }
         // what may be a frame of which little is left is none of these
-        for bytes in [&[0; 40][..], &PIECE[..10], &PIECE[5..], &[PIECE, b"\x12\x34"].concat()] {
+        for bytes in [&[0; 40][..], &PIECE[..10], &PIECE[5..], &[ENTRY, b"\x12\x34"].concat()] {
             assert_eq!(stray(bytes), None, "{bytes:02X?}");
         }
+        let line = stray(&[PIECE, b"\x12\x34"].concat()).expect("it is too long");
+        assert!(line.starts_with("without its last two bytes it is a file piece"), "{line}");
     }
 
     #[test]

@@ -12,6 +12,7 @@ mod records;
 mod requests;
 mod table;
 
+pub use accepted::said;
 pub use faults::Fault;
 pub use fields::Kind;
 
@@ -66,12 +67,9 @@ fn record(words: &Words, path: &Path) -> Result<Option<(Source, Reception)>, Fai
 
 // Each frame of an input, with an empty line between two.
 fn all(source: &Source, read: &Frames, asked: &Asked, out: &mut Out<'_>) -> End {
-    if read.frames.is_empty() {
-        return Err(Failure::Trouble(format!("{source}: has no frame in it")));
-    }
     let mut ended = Ended::Well;
     for (index, heard) in read.frames.iter().enumerate() {
-        let name = heard.line.map_or(source.to_string(), |line| format!("{source} line {line}"));
+        let name = heard.name(source);
         let kind = asked.kind.unwrap_or_else(|| looks::kind(&heard.bytes));
         if kind == Kind::Record && asked.record.is_some() {
             let line = format!("{name}: is read as a record, and `--record` is for a frame; `join` joins two records");
@@ -183,16 +181,9 @@ mod tests {
             text.starts_with("standard input line 1: 115 bytes raw, read as a directory entry\n\nplace "),
             "{text}"
         );
-        let between = "\n\naccepted: file 1201, `SURVEY`, has 2358 bytes\n\n\
+        let between = "\n\naccepted: file 1201, `SURVEY.TXT`, has 2358 bytes\n\n\
                        standard input line 4: 20 bytes raw, read as a file piece\n\nplace ";
         assert!(text.contains(between), "{text}");
-    }
-
-    #[test]
-    fn no_frame_at_all_is_told() {
-        let (end, text) = text(Vec::new(), &Asked { kind: None, steps: false, record: None });
-        assert_eq!(end.expect_err("there is nothing to explain").to_string(), "standard input: has no frame in it");
-        assert_eq!(text, "");
     }
 
     // The sum of the bytes that a table shows, and of those that it tells to be hidden.

@@ -1,8 +1,8 @@
 //! A piece in a record: the positions that it goes to, which of them are new and in which holes they are, and where it
 //! does not fit. Whether it fits is the library's answer.
 use super::faults::{self, find, Fault};
-use super::fields::{self, positions, Field, Kind, Name};
-use crate::command::bytes::counted;
+use super::fields::{self, Field, Kind, Name};
+use crate::command::bytes::{counted, positions};
 use thoweldeck::{Piece, Reason, Reception};
 
 /// The faults of a frame that a reception refuses for a reason: those of the frame, or of the piece in this reception.

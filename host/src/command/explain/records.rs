@@ -1,8 +1,8 @@
 //! A record: its fields, and the first fault that a reader meets in it (01, "Record"). Whether it is refused is the
 //! library's answer.
 use super::faults::Fault;
-use super::fields::{positions, Name, Walk};
-use crate::command::bytes::{counted, number};
+use super::fields::{Name, Walk};
+use crate::command::bytes::{counted, number, positions};
 use thoweldeck::{Reception, LONGEST};
 
 /// What every record begins with: the tag of the number, and the length of its data.

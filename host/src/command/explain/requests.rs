@@ -1,7 +1,7 @@
 //! The holes of a request: what each means, and where a refused request is at fault behind its flags.
 use super::faults::{find, Fault};
-use super::fields::{positions, Field, Name, Walk};
-use crate::command::bytes::{counted, number};
+use super::fields::{Field, Name, Walk};
+use crate::command::bytes::{counted, number, positions};
 use thoweldeck::LONGEST;
 
 /// Walks over the holes of a request.

@@ -10,61 +10,68 @@ use thoweldeck::{Entry, Piece, Request};
 
 // The most bytes that a frame has: 16 and an information of 255.
 const LONGEST: usize = 271;
+// No line of a frame that goes over several has more bytes.
+const WIDEST: usize = 64;
 
-/// The frames of a text, each with the line it begins in. A line that cannot be read is told beside them where each line
-/// is for itself: the library accepts one alone, and no frame has several. Else it may be a part of any frame.
+/// The frames of a text, each with the line it begins in. No frame goes over a line that cannot be read, and such a line
+/// is told beside the frames, where the library accepts one of them. Else it may be a part of any. Several lines beside it
+/// are a frame only by their check.
 pub fn frames(text: &str) -> Result<Frames, Strange> {
-    let mut read = Read::of(text)?;
+    let read = Read::of(text)?;
     let starts = read.starts();
-    let strange = std::mem::take(&mut read.strange);
-    if let (Some(first), false) = (strange.first(), starts.len() == read.lines.len() && read.has_one_alone()) {
-        return Err(first.clone());
-    }
     let ends = starts.iter().skip(1).copied().chain([read.lines.len()]);
-    let heard = |(start, end): (&usize, usize)| Heard {
-        bytes: read.of_lines(*start, end).to_vec(),
-        line: Some(read.lines[*start].number),
+    let is_told = |(start, end): &(usize, usize)| {
+        let is_beside_strange = read.lines[*start].is_behind_strange || read.is_broken(*end);
+        !is_beside_strange || end - start == 1 || is_checked(read.of_lines(*start, *end))
     };
-    Ok(Frames { form: Form::Hexadecimal, frames: starts.iter().zip(ends).map(heard).collect(), strange })
+    let heard = |(start, end): (usize, usize)| Heard {
+        bytes: read.of_lines(start, end).to_vec(),
+        line: Some(read.lines[start].number),
+    };
+    let frames: Vec<Heard> = starts.iter().copied().zip(ends).filter(is_told).map(heard).collect();
+    match read.strange.first() {
+        Some(first) if !frames.iter().any(|heard| is_frame(&heard.bytes)) => Err(first.clone()),
+        _ => Ok(Frames { form: Form::Hexadecimal, frames, strange: read.strange }),
+    }
 }
 
-// The bytes of a text, the lines that they stand in, and the lines that cannot be read.
+// The bytes of a text, the lines that they stand in, the lines that cannot be read, and whether the last one can.
 struct Read {
     bytes: Vec<u8>,
     lines: Vec<Line>,
     strange: Vec<Strange>,
+    ends_well: bool,
 }
 
-// A line that has bytes: its number from 1, and how many bytes stand before it.
+// A line that has bytes: its number from 1, how many bytes stand before it, and whether it stands behind a line that
+// cannot be read.
 struct Line {
     number: usize,
     before: usize,
+    is_behind_strange: bool,
 }
 
 impl Read {
     // Reads the digits of a text. A comment goes from `#` to the end of its line.
     fn of(text: &str) -> Result<Read, Strange> {
-        let mut read = Read { bytes: Vec::new(), lines: Vec::new(), strange: Vec::new() };
+        let mut read = Read { bytes: Vec::new(), lines: Vec::new(), strange: Vec::new(), ends_well: true };
         for (number, line) in text::lines(text) {
             let before = read.bytes.len();
-            match add(line, &mut read.bytes) {
-                Ok(()) => read.lines.push(Line { number, before }),
+            let added = add(line, &mut read.bytes);
+            match added {
+                Ok(()) => read.lines.push(Line { number, before, is_behind_strange: !read.ends_well }),
                 Err(unread) => {
                     read.bytes.truncate(before);
                     read.strange.push(Strange::at(number, unread));
                 }
             }
+            read.ends_well = added.is_ok();
         }
         match (read.lines.is_empty(), read.strange.first()) {
             (true, None) => Err(Strange::Nothing),
             (true, Some(first)) => Err(first.clone()),
             (false, _) => Ok(read),
         }
-    }
-
-    // Whether a line is a frame alone.
-    fn has_one_alone(&self) -> bool {
-        (0..self.lines.len()).any(|line| self.begins(line) && is_frame(self.of_lines(line, line + 1)))
     }
 
     // The bytes of the lines from one to before another.
@@ -74,16 +81,14 @@ impl Read {
     }
 
     // The lines that frames begin in. Lines that are a frame only together tell that frames have several lines each; else
-    // each has one, if one at least is a frame alone, or if most of them begin as a frame does.
+    // each has one, if one at least is a frame alone, if most of them begin as a frame does, or if they are too wide.
     fn starts(&self) -> Vec<usize> {
         let count = self.lines.len();
-        let some_alone = self.has_one_alone();
-        if !some_alone && is_frame(&self.bytes) {
-            return vec![0];
-        }
         let (starts, some_together) = self.runs();
+        let some_alone = (0..count).any(|line| self.accepted(line, line + 1) == Some(line + 1));
         let heads = (0..count).filter(|line| self.begins(*line)).count();
-        if !some_together && (some_alone || 2 * heads > count) {
+        let some_wide = (0..count).any(|line| self.of_lines(line, line + 1).len() > WIDEST);
+        if !some_together && (some_alone || some_wide || 2 * heads > count) {
             return (0..count).collect();
         }
         starts
@@ -95,7 +100,8 @@ impl Read {
         let (mut starts, mut some_together, mut line) = (Vec::new(), false, 0);
         while line < self.lines.len() {
             starts.push(line);
-            let next = (line + 1..self.lines.len()).find(|other| self.begins(*other)).unwrap_or(self.lines.len());
+            let is_next = |other: &usize| self.begins(*other) || self.lines[*other].is_behind_strange;
+            let next = (line + 1..self.lines.len()).find(is_next).unwrap_or(self.lines.len());
             let end = self.accepted(line, next);
             some_together |= end.map_or(false, |end| end > line + 1);
             line = end.unwrap_or(next);
@@ -103,16 +109,31 @@ impl Read {
         (starts, some_together)
     }
 
-    // Where a frame ends that begins in a line and is accepted, at the next one's beginning at the latest. A piece and an
-    // entry end where their check fits. A request has none, so it ends at the next frame, or with its line.
+    // Where a frame ends that begins in a line and is accepted: at the next one's beginning if that fits. Else before it,
+    // if a damaged one stands behind it, or beyond it, if a frame is among its data. Zero bytes behind a frame leave its
+    // check right, so lines of zeros are no part of it where it fits without them. A request has no check: it ends at the
+    // next frame, or with its line.
     fn accepted(&self, line: usize, next: usize) -> Option<usize> {
         if !self.begins(line) {
             return None;
         }
-        let checked = (line + 1..=next)
-            .take_while(|end| self.of_lines(line, *end).len() <= LONGEST)
-            .find(|end| is_checked(self.of_lines(line, *end)));
-        checked.or_else(|| [next, line + 1].into_iter().find(|end| Request::read(self.of_lines(line, *end)).is_ok()))
+        let fits = |end: &usize| is_checked(self.of_lines(line, *end));
+        let is_zero = |end: &usize| self.of_lines(*end, *end + 1).iter().all(|byte| *byte == 0);
+        if fits(&next) {
+            return (line + 1..next).rev().take_while(|end| is_zero(end) && fits(end)).last().or(Some(next));
+        }
+        let is_strange = |end: &usize| self.lines.get(*end - 1).map_or(false, |last| last.is_behind_strange);
+        let checked = (line + 1..=self.lines.len())
+            .take_while(|end| self.of_lines(line, *end).len() <= LONGEST && (*end == line + 1 || !is_strange(end)))
+            .find(fits);
+        let is_request = |end: &usize| Request::read(self.of_lines(line, *end)).is_ok();
+        checked
+            .or_else(|| Some(next).filter(|next| !self.is_broken(*next)).into_iter().chain([line + 1]).find(is_request))
+    }
+
+    // Whether the line before another is followed by one that cannot be read.
+    fn is_broken(&self, next: usize) -> bool {
+        self.lines.get(next).map_or(!self.ends_well, |line| line.is_behind_strange)
     }
 
     // Whether the bytes from a line on begin as a frame does: bit 0 of the addresses, and the control byte.
@@ -125,14 +146,20 @@ impl Read {
 // Adds the bytes of a line.
 fn add<'a>(line: &'a str, bytes: &mut Vec<u8>) -> Result<(), Unread<'a>> {
     let digits = line.split('#').next().unwrap_or(line).trim_end();
-    match dump::place_in(digits) {
-        Some(place) => Err((place, Why::Start)),
-        None => digits.split_whitespace().try_for_each(|word| pairs::add(word, bytes)),
+    if let Some(place) = dump::place_in(digits) {
+        return Err((place, Why::Start));
     }
+    let words = || digits.split_whitespace();
+    if let (Some(word), true) =
+        (words().find(|word| pairs::is_joined(word)), words().any(|word| !pairs::is_joined(word)))
+    {
+        return Err((word, Why::Mixed));
+    }
+    words().try_for_each(|word| pairs::add(word, bytes))
 }
 
-// Whether a frame is accepted.
-fn is_frame(frame: &[u8]) -> bool {
+/// Whether a frame is accepted.
+pub fn is_frame(frame: &[u8]) -> bool {
     is_checked(frame) || Request::read(frame).is_ok()
 }
 

@@ -8,6 +8,8 @@ mod text;
 pub use strange::Strange;
 pub use text::as_text;
 
+use super::files::Source;
+
 /// The frames in an input.
 #[derive(Clone, Debug, PartialEq, Eq)]
 pub struct Frames {
@@ -15,7 +17,7 @@ pub struct Frames {
     pub form: Form,
     /// The frames, in their order. There is one at least.
     pub frames: Vec<Heard>,
-    /// The lines that cannot be read, beside others that are a frame each.
+    /// What cannot be read beside the frames.
     pub strange: Vec<Strange>,
 }
 
@@ -50,6 +52,13 @@ pub struct Heard {
     pub line: Option<usize>,
 }
 
+impl Heard {
+    /// What it is called: its source, and its line where that has several frames.
+    pub fn name(&self, source: &Source) -> String {
+        self.line.map_or(source.to_string(), |line| format!("{source} line {line}"))
+    }
+}
+
 /// The frames in the bytes of an input. A text is read as hexadecimal or as a dump; what is none is one raw frame.
 pub fn frames(bytes: &[u8]) -> Result<Frames, Strange> {
     let text = match as_text(bytes) {
@@ -60,7 +69,7 @@ pub fn frames(bytes: &[u8]) -> Result<Frames, Strange> {
         Some(text) => text,
     };
     let mut read = match dump::begins(&text) {
-        true => Frames { form: Form::Dump, frames: dump::frames(&text)?, strange: Vec::new() },
+        true => dump::frames(&text)?,
         false => lines::frames(&text)?,
     };
     if let ([only], []) = (&mut read.frames[..], &read.strange[..]) {

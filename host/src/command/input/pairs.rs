@@ -26,6 +26,11 @@ pub fn add_digits<'a>(word: &'a str, bytes: &mut Vec<u8>) -> Result<(), Unread<'
     Ok(())
 }
 
+/// Whether a word has its bytes joined as a time or a date is, too. (One `-` stands in the middle of a line of `debug`.)
+pub fn is_joined(word: &str) -> bool {
+    word.trim_end_matches(':').contains(':') || word.matches('-').count() > 1
+}
+
 /// Whether a word is one pair of digits.
 pub fn is_pair(word: &str) -> bool {
     word.len() == 2 && is_digits(word)

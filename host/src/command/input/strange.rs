@@ -29,6 +29,8 @@ pub enum Why {
     Number,
     /// It stands like a place, and no dump has begun.
     Start,
+    /// It has its bytes joined, beside words that have not.
+    Mixed,
     /// It is not the place of its line, before which so many bytes stand.
     Place(usize),
     /// It is a place both in octal and in another base, as far as the lines tell.
@@ -85,7 +87,7 @@ impl Why {
     // What the text is taken for.
     fn form(self) -> &'static str {
         match self {
-            Why::Pair | Why::Odd(_) | Why::Number | Why::Start => "text",
+            Why::Pair | Why::Odd(_) | Why::Number | Why::Start | Why::Mixed => "text",
             _ => "dump",
         }
     }
@@ -97,6 +99,9 @@ impl Why {
             Why::Odd(count) => format!("has {}, an odd count", counted(count, "digit")),
             Why::Number => "is a number of several bytes, whose order is not told: write its pairs apart".to_string(),
             Why::Start => "stands like a place of a dump, which begins with place 0".to_string(),
+            Why::Mixed => {
+                "may be a time or a place as well as bytes, since others in the line are not joined so".to_string()
+            }
             Why::Place(count) => {
                 format!("is not the place of its line, with {} before it", counted(count, "byte"))
             }

@@ -138,6 +138,7 @@ fn a_word_that_is_no_bytes_is_told_with_its_line() {
         ("A2\u{200b} A6", format!("`A2\\u{{200b}}` in line 1 {no_pair}")),
         // Cyrillic, as a copy of a figure may have it
         ("А2", format!("`А2` in line 1 {no_pair}: its `А` is U+0410")),
+        ("12:34:56 A2 A6", "`12:34:56` in line 1 may be a time or a place as well as bytes, since others in the line are not joined so".to_string()),
         ("Hello, world", format!("`Hello` in line 1 {no_pair}")),
         ("*", format!("`*` in line 1 {no_pair}")),
     ] {
@@ -172,6 +173,7 @@ fn a_line_of_a_dump_in_another_text_is_told() {
         ("A2 A6 A8 40\n00000004  02 b1 04 00  |....|\n", "00000004", 2),
         ("A2A6A840  40 40\n", "A2A6A840", 1),
         ("10: A2 A6\n", "10:", 1),
+        ("0010  A2 A6\n", "0010", 1),
     ] {
         let said =
             format!("is a text, and `{word}` in line {line} stands like a place of a dump, which begins with place 0");

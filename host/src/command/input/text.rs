@@ -10,7 +10,12 @@ pub fn as_text(bytes: &[u8]) -> Option<Cow<'_, str>> {
         [0xEF, 0xBB, 0xBF, rest @ ..] | rest => Cow::Borrowed(std::str::from_utf8(rest).ok()?),
     };
     let is_text = !text.trim().is_empty() && text.chars().all(|c| c.is_whitespace() || !c.is_control());
-    is_text.then_some(text)
+    is_text.then_some(if text.contains('\r') { Cow::Owned(with_one_line_end(&text)) } else { text })
+}
+
+// A text whose lines end in one way: they may end in CR LF, or in CR alone.
+fn with_one_line_end(text: &str) -> String {
+    text.replace("\r\n", "\n").replace('\r', "\n")
 }
 
 // The text in UTF-16, whose units have their two bytes in an order.

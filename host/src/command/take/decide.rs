@@ -18,8 +18,8 @@ pub enum Undecided {
     NoFile,
     /// The frames name several files, and no directory entry picks one.
     SeveralFiles(BTreeSet<u32>),
-    /// No frame says how long the file with a number is.
-    NoLength(u32),
+    /// No frame says how long the file with a number is; whether its first piece is among them.
+    NoLength(u32, bool),
     /// The frames say several lengths of it.
     SeveralLengths(u32, BTreeSet<u32>),
 }
@@ -34,7 +34,11 @@ impl fmt::Display for Undecided {
             Undecided::SeveralFiles(numbers) => {
                 write!(f, "the frames are of several files ({}): say which by `--number`", either(numbers))
             }
-            Undecided::NoLength(number) => write!(
+            Undecided::NoLength(number, true) => write!(
+                f,
+                "the file's length is not known: the first piece of file {number} has no whole file header that keeps the rules; give a frame with its directory entry, or `--length`"
+            ),
+            Undecided::NoLength(number, false) => write!(
                 f,
                 "the file's length is not known: give a frame with the directory entry or the first piece of file {number}, or `--length`"
             ),
@@ -50,17 +54,19 @@ struct Told {
     number: u32,
     length: Option<u32>,
     by_entry: bool,
+    is_first: bool,
 }
 
 // What a frame says, if it is a directory entry or a piece. The header of a file stands at its start, so a piece at
 // offset 0 may have it whole; the library reads it.
 fn told(frame: &[u8]) -> Option<Told> {
     if let Ok(entry) = Entry::read(frame) {
-        return Some(Told { number: entry.number, length: Some(entry.header.size), by_entry: true });
+        return Some(Told { number: entry.number, length: Some(entry.header.size), by_entry: true, is_first: false });
     }
     let piece = Piece::read(frame).ok()?;
-    let header = if piece.offset == 0 { Header::read(piece.bytes, piece.number).ok() } else { None };
-    Some(Told { number: piece.number, length: header.map(|header| header.size), by_entry: false })
+    let is_first = piece.offset == 0;
+    let header = Some(piece).filter(|_| is_first).and_then(|piece| Header::read(piece.bytes, piece.number).ok());
+    Some(Told { number: piece.number, length: header.map(|header| header.size), by_entry: false, is_first })
 }
 
 /// The number and the length of the file that a new record is of.
@@ -84,11 +90,11 @@ fn number(all: &[Told]) -> Result<u32, Undecided> {
 
 // The one length that the frames tell of a file.
 fn length(all: &[Told], number: u32) -> Result<u32, Undecided> {
-    let of_it = all.iter().filter(|told| told.number == number);
-    let lengths: BTreeSet<u32> = of_it.filter_map(|told| told.length).collect();
+    let of_it = || all.iter().filter(|told| told.number == number);
+    let lengths: BTreeSet<u32> = of_it().filter_map(|told| told.length).collect();
     match (only(&lengths), lengths.is_empty()) {
         (Some(length), _) => Ok(length),
-        (None, true) => Err(Undecided::NoLength(number)),
+        (None, true) => Err(Undecided::NoLength(number, of_it().any(|told| told.is_first))),
         (None, false) => Err(Undecided::SeveralLengths(number, lengths)),
     }
 }

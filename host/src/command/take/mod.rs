@@ -15,6 +15,12 @@ use tally::{Came, Tally};
 use thoweldeck::{Entry, Piece, Reason, Reception, Request};
 
 pub fn run(words: Words, out: &mut Out<'_>) -> End {
+    // whatever stands in the way, no frame is taken then, and the status says so
+    taken(&words, out).map_err(|failure| Failure::Trouble(failure.to_string()))
+}
+
+// Takes the frames that the words name.
+fn taken(words: &Words, out: &mut Out<'_>) -> End {
     let (path, names) = words.first_and_others("a record", "the frames to take")?;
     let wanted = Wanted {
         number: words.said("--number", "the number of a file")?,
@@ -31,13 +37,13 @@ pub fn run(words: Words, out: &mut Out<'_>) -> End {
         out.line(format!("{}: {line}", one.name));
         tally.add(came);
     }
-    if is_new {
-        target.create(&reception.save()).map_err(not_kept)?;
-    } else if reception.held() > before {
-        if let Some(note) = target.replace(&reception.save()).map_err(not_kept)? {
-            out.line(note);
-        }
-    }
+    let record = reception.save();
+    let notes = match is_new {
+        true => target.create(&record).map_err(not_kept)?,
+        false if reception.held() > before => target.replace(&record).map_err(not_kept)?,
+        false => Vec::new(),
+    };
+    notes.iter().for_each(|note| out.line(note));
     out.line(&tally);
     out.line(format!("{}: {}", shown(&path), super::holes::summary(&reception)));
     Ok(tally.ended())
@@ -49,13 +55,13 @@ fn not_kept(failure: Failure) -> Failure {
 }
 
 /// What was named: a frame by its name, or why there is none.
-struct Heard {
+struct Named {
     name: String,
     frame: Result<Vec<u8>, String>,
 }
 
 // All that the words name, in their order. What cannot be read is told with the others, and keeps none of them back.
-fn heard(record: &Path, names: &[PathBuf]) -> Result<Vec<Heard>, Failure> {
+fn heard(record: &Path, names: &[PathBuf]) -> Result<Vec<Named>, Failure> {
     let sources: Vec<Source> = names.iter().map(|name| Source::of(name)).collect();
     if Source::of(record) == Source::Standard {
         return Err(Failure::Trouble("a record is a file, and `-` is standard input".to_string()));
@@ -67,16 +73,14 @@ fn heard(record: &Path, names: &[PathBuf]) -> Result<Vec<Heard>, Failure> {
 }
 
 // The frames in one source.
-fn frames(source: &Source) -> Vec<Heard> {
-    let unread = |line: String| vec![Heard { name: source.to_string(), frame: Err(line) }];
+fn frames(source: &Source) -> Vec<Named> {
+    let unread = |line: String| vec![Named { name: source.to_string(), frame: Err(line) }];
     match source.bytes() {
         Err(error) => unread(format!("cannot be read: {error}")),
         Ok(bytes) => match input::frames(&bytes) {
             Err(strange) => unread(strange.to_string()),
             Ok(read) => {
-                let name =
-                    |line: Option<usize>| line.map_or(source.to_string(), |line| format!("{source} line {line}"));
-                let heard = read.frames.into_iter().map(|one| Heard { name: name(one.line), frame: Ok(one.bytes) });
+                let heard = read.frames.into_iter().map(|one| Named { name: one.name(source), frame: Ok(one.bytes) });
                 heard.chain(read.strange.iter().flat_map(|strange| unread(strange.to_string()))).collect()
             }
         },
@@ -96,7 +100,7 @@ fn extended(path: &Path, wanted: Wanted) -> Result<Reception, Failure> {
 }
 
 // A fresh reception of the file that the words or the frames decide on; else a line on each frame, and no record.
-fn opened(path: &Path, wanted: Wanted, heard: &[Heard], out: &mut Out<'_>) -> Result<Reception, Failure> {
+fn opened(path: &Path, wanted: Wanted, heard: &[Named], out: &mut Out<'_>) -> Result<Reception, Failure> {
     let frames: Vec<&[u8]> = heard.iter().filter_map(|one| one.frame.as_deref().ok()).collect();
     let (number, length) = decide::file(wanted, &frames).map_err(|undecided| {
         for one in heard {
@@ -111,7 +115,7 @@ fn opened(path: &Path, wanted: Wanted, heard: &[Heard], out: &mut Out<'_>) -> Re
     Ok(reception)
 }
 
-impl Heard {
+impl Named {
     // Takes the frame in: what came of it, and a line on it.
     fn taken(&self, reception: &mut Reception) -> (Came, String) {
         let frame = match &self.frame {
@@ -126,7 +130,10 @@ impl Heard {
             Ok(new) => (Came::New, format!("{}, {new} new", spot(frame))),
             Err(reason) => match looks::stray(frame) {
                 Some(line) => (Came::Unread, line),
-                None => (Came::refused(reason), format!("refused, {}", Cause::of_piece(frame, reception, reason))),
+                None => {
+                    let hint = looks::with_link_check(frame).map_or(String::new(), |line| format!("; {line}"));
+                    (Came::refused(reason), format!("refused, {}{hint}", Cause::of_piece(frame, reception, reason)))
+                }
             },
         }
     }

@@ -6,8 +6,9 @@ mod row;
 pub use row::place_in;
 
 use super::super::files::MOST;
+use super::lines::is_frame;
 use super::strange::{Strange, Unread, Why};
-use super::{text, Heard};
+use super::{text, Form, Frames, Heard};
 use row::{Place, Row};
 
 /// Whether a text begins as a dump does, with place 0.
@@ -15,24 +16,41 @@ pub fn begins(text: &str) -> bool {
     text::lines(text).next().map_or(false, |(_, line)| row::start(line).is_some())
 }
 
-/// The frames of a text of dumps, each with the line it begins in. A frame begins at each place 0.
-pub fn frames(text: &str) -> Result<Vec<Heard>, Strange> {
-    let mut frames = Vec::new();
+/// The frames of a text of dumps, each with the line it begins in. A frame begins at each place 0, and a dump that cannot
+/// be read takes nothing from the others: it is told beside them, up to the next place 0.
+pub fn frames(text: &str) -> Result<Frames, Strange> {
+    let mut read = Frames { form: Form::Dump, frames: Vec::new(), strange: Vec::new() };
     let mut open: Option<Dump<'_>> = None;
     let mut room = MOST;
     for (number, line) in text::lines(text) {
         if let Some(place) = row::start(line) {
-            frames.extend(open.take().map(Dump::end).transpose()?);
+            close(open.take(), &mut read);
             open = Some(Dump::new(number, place));
         }
-        if let Some(dump) = &mut open {
-            let before = dump.bytes.len();
-            dump.add(number, line, room).map_err(|unread| Strange::at(number, unread))?;
-            room = room.saturating_sub(dump.bytes.len() - before);
+        let added = match &mut open {
+            None => continue,
+            Some(dump) => dump.add(number, line, &mut room),
+        };
+        if let Err(unread) = added {
+            // what stands before the line may be a frame all the same
+            close(open.take().filter(|dump| is_frame(&dump.bytes)), &mut read);
+            read.strange.push(Strange::at(number, unread));
         }
     }
-    frames.extend(open.map(Dump::end).transpose()?);
-    Ok(frames)
+    close(open, &mut read);
+    match read.strange.first() {
+        Some(first) if read.frames.is_empty() => Err(first.clone()),
+        _ => Ok(read),
+    }
+}
+
+// Adds the frame of a dump, or what is strange in it.
+fn close(dump: Option<Dump<'_>>, read: &mut Frames) {
+    match dump.map(Dump::end) {
+        None => {}
+        Some(Ok(heard)) => read.frames.push(heard),
+        Some(Err(strange)) => read.strange.push(strange),
+    }
 }
 
 // A dump that is being read.
@@ -69,24 +87,28 @@ impl<'a> Dump<'a> {
         }
     }
 
-    // Adds a line, where so many bytes have room.
-    fn add(&mut self, number: usize, line: &'a str, room: usize) -> Result<(), Unread<'a>> {
-        if line == "*" && !self.has_ended && self.repeat.is_none() {
+    // Adds a line, where so many bytes have room, which it takes.
+    fn add(&mut self, number: usize, line: &'a str, room: &mut usize) -> Result<(), Unread<'a>> {
+        if line == "*" && !self.has_ended && self.repeat.is_none() && self.last > 0 {
             self.repeat = Some(number);
             return Ok(());
         }
         if line == "*" {
             return Err((line, Why::Repeat));
         }
-        let row = Row::of(line, self.bytes.len())?;
-        self.reach(&row.place, room)?;
-        if row.bytes.is_empty() && row.column.is_none() {
-            self.has_ended = true;
-            return Ok(());
+        let before = self.bytes.len();
+        let row = Row::of(line, before)?;
+        self.reach(&row.place, *room)?;
+        match &row.column {
+            None if row.bytes.is_empty() => self.has_ended = true,
+            Some(column) if row.bytes.is_empty() => return Err((column.word, Why::Column(0))),
+            _ => {
+                self.compare(number, &row)?;
+                self.last = row.bytes.len();
+                self.bytes.extend(row.bytes);
+            }
         }
-        self.compare(number, &row)?;
-        self.last = row.bytes.len();
-        self.bytes.extend(row.bytes);
+        *room = room.saturating_sub(self.bytes.len() - before);
         Ok(())
     }
 

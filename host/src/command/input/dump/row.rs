@@ -126,8 +126,8 @@ pub fn start(line: &str) -> Option<Place<'_>> {
     (is_zero && is_place).then_some(place)
 }
 
-/// The first word of a line that is no line of a dump, where it stands like a place: with a colon, or with six to eight
-/// digits before pairs, and two blanks between or zeros at its beginning.
+/// The first word of a line that is no line of a dump, where it stands like a place: with a colon, or with four or six to
+/// eight digits before pairs, and two blanks between; or with six to eight and zeros at its beginning.
 pub fn place_in(line: &str) -> Option<&str> {
     let (place, rest) = apart(line).ok()?;
     let mut words = rest.split_whitespace().take_while(|word| !column::opens(word)).peekable();
@@ -136,6 +136,7 @@ pub fn place_in(line: &str) -> Option<&str> {
         _ if rest.is_empty() => false,
         _ if place.has_colon() => true,
         6..=8 => stands_alone && words.peek().is_some() && words.all(is_pair),
+        4 => rest.starts_with("  ") && words.peek().is_some() && words.all(is_pair),
         _ => false,
     };
     is_place.then_some(place.word)

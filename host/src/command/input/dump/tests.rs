@@ -140,7 +140,6 @@ fn repeated_lines_are_filled_up() {
     assert_eq!(refused("00000000  a2 a6\n*\n"), star(2));
     assert_eq!(refused("00000000  a2 a6\n*\n*\n00000006\n"), star(3));
     assert_eq!(refused("00000000  a2 a6\n00000002\n*\n00000006\n"), star(3));
-    assert_eq!(refused("00000000  a2 a6\n*\n00000000  a2 a6\n"), star(2));
     // not by whole lines, by none, and by more than there is room for
     assert!(refused("00000000  a2 a6\n*\n00000005\n").contains("`00000005` in line 3 is not the place"));
     assert!(refused("00000000  a2 a6\n*\n00000002\n").contains("`00000002` in line 3 is not the place"));
@@ -148,7 +147,8 @@ fn repeated_lines_are_filled_up() {
     assert_eq!(refused("00000000  a2 a6\n*\nfffffffe\n"), far);
     let half = "00000000  a2 a6\n*\n00c00000\n";
     assert_eq!(read(half)[0].bytes.len(), 0xC0_0000);
-    assert_eq!(refused(&half.repeat(2)), "is a dump, and `00c00000` in line 6 is a place too far on");
+    let twice = frames(half.repeat(2).as_bytes()).expect("the first of them");
+    assert_eq!(twice.strange[0].to_string(), "is a dump, and `00c00000` in line 6 is a place too far on");
     let base = "is a dump, and `0000140` in line 3 is a place in octal or in hexadecimal, and both may be meant";
     let zeros = "0000000 00 00 00 00 00 00 00 00 00 00 00 00 00 00 00 00\n";
     assert_eq!(refused(&format!("{zeros}*\n0000140\n")), base);
@@ -186,4 +186,30 @@ fn an_order_of_bytes_that_is_not_told_is_refused() {
     assert_eq!(refused("00000000: a2a6 a84041\n"), format!("is a dump, and `a84041` in line 1 {group}"));
     // blanks that were lost before the text
     assert_eq!(refused("00000000: a2a6 a840 abcdef\n"), format!("is a dump, and `abcdef` in line 1 {group}"));
+}
+
+#[test]
+fn a_dump_that_cannot_be_read_takes_nothing_from_the_others() {
+    let frame = super::super::tests::piece(4, b"a piece of a file");
+    let broken = hexdump(&frame).replacen("00000010", "00000011", 1);
+    let text = format!("{}{broken}{}", hexdump(&frame), xxd(&frame, 16, 2));
+    let read = frames(text.as_bytes()).expect("two frames");
+    let lines: Vec<Option<usize>> = read.frames.iter().map(|heard| heard.line).collect();
+    assert_eq!((lines, read.strange.len()), (vec![Some(1), Some(9)], 1));
+    assert!(read.frames.iter().all(|heard| heard.bytes == frame));
+    assert!(read.strange[0].to_string().contains("`00000011` in line 6 is not the place of its line"));
+    // what stands before a line that is no dump's is a frame all the same, and what is none is not
+    let read = frames(format!("{}noted\n", hexdump(&frame)).as_bytes()).expect("a frame");
+    assert_eq!((read.frames.len(), read.strange.len()), (1, 1));
+    assert!(refused(&format!("{}noted\n", hexdump(&frame[..20]))).contains("`noted` in line 4"));
+    let star = frames(b"00000000  a2 a6\n*\n00000000  a2 a6\n").expect("the second");
+    assert_eq!((star.frames.len(), star.strange.len()), (1, 1));
+}
+
+#[test]
+fn a_text_beside_no_bytes_is_told() {
+    for text in ["00000000  ||\n*\n00000010\n", "00000000  |\n*\n00000010\n", "00000000  |abc\n*\n00000010\n"] {
+        assert!(refused(text).contains("in line 1 is not the text of the 0 bytes beside it"), "{text}");
+    }
+    assert!(refused("00000000  a2  |.|\n00000001  ||\n*\n00000010\n").contains("in line 2 is not the text"));
 }

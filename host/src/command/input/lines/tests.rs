@@ -92,6 +92,9 @@ fn each_line_is_a_frame_where_some_are_damaged() {
     let all = [&damages[0], &damages[1], &damages[0]];
     let text: String = all.iter().map(|frame| line(frame)).collect();
     assert_eq!(read(&text).len(), 3);
+    // or they are wider than a frame is cut
+    let wide = piece(0, &[b'x'; 60]);
+    assert_eq!(read(&(line(&with(&wide, 30, 0)) + &line(&with(&wide, 3, 0x41)))).len(), 2);
 }
 
 #[test]
@@ -107,6 +110,33 @@ fn one_frame_in_several_lines() {
         for frame in [with(&figure(0), 50, 0xFF), with(&figure(1), 2, 0x41), with(&requests[2], 147, 0x00)] {
             assert_eq!(read(&wrapped(&frame, width)), [(1, frame.clone())], "{width}");
         }
+    }
+}
+
+#[test]
+fn a_check_that_fits_by_chance_cuts_no_frame() {
+    // behind the first data stand the two bytes that would be their check, and behind them more data
+    let check = thoweldeck::remainder(&piece(0, b"abc")[16..28]).to_be_bytes();
+    let frame = piece(0, &[b"abc", &check[..], b" and the rest of the piece"].concat());
+    assert!(is_frame(&frame[..30]) && is_frame(&frame));
+    for width in [1, 2, 3, 5, 6, 10, 15, 30] {
+        assert_eq!(read(&wrapped(&frame, width)), [(1, frame.clone())], "{width}");
+        let text = wrapped(&frame, width) + &wrapped(&figure(0), width);
+        let frames: Vec<Vec<u8>> = read(&text).into_iter().map(|(_, frame)| frame).collect();
+        assert_eq!(frames, [frame.clone(), figure(0)], "{width}");
+    }
+}
+
+#[test]
+fn a_frame_among_the_data_of_a_piece_is_no_frame() {
+    let inner = piece(100, b"inner");
+    assert_eq!(inner.len(), 32);
+    // the inner one stands in a line of its own, where the outer one is cut into lines of 32 or 16 bytes
+    let outer = piece(0, &[&[b'.'; 7][..], &inner, b"and so on"].concat());
+    for width in [16, 32] {
+        assert_eq!(read(&wrapped(&outer, width)), [(1, outer.clone())], "{width}");
+        let both: Vec<Vec<u8>> = read(&wrapped(&outer, width).repeat(2)).into_iter().map(|(_, frame)| frame).collect();
+        assert_eq!(both, [outer.clone(), outer.clone()], "{width}");
     }
 }
 
@@ -210,12 +240,20 @@ fn a_line_that_cannot_be_read_takes_nothing_from_the_others() {
     assert_eq!(strange, [pair, "is a text, and `A` in line 4 has 1 digit, an odd count"]);
     // one frame, and a line that is none
     assert_eq!(frames(&format!("{}O2\n", line(&one))).expect("a frame").frames.len(), 1);
-    // in a frame of several lines any line may be a part of it, and so may one beside frames that are all damaged
-    for text in [
-        wrapped(&one, 16) + "O2\n",
-        wrapped(&one, 16).replacen("AA", "AO", 1),
-        line(&with(&one, 26, 0)) + "O2\n" + &line(&with(&two, 26, 0)),
-    ] {
+    // nor from frames of several lines, over which it does not go
+    let text = wrapped(&one, 16) + "O2\n" + &wrapped(&two, 16);
+    let read = frames(&text).expect("two frames");
+    let bytes: Vec<&[u8]> = read.frames.iter().map(|one| &one.bytes[..]).collect();
+    assert_eq!((bytes, read.strange.len()), (vec![&one[..], &two[..]], 1));
+    // a request that has such a line in it is not taken for a shorter one
+    let request = request(6);
+    let mut lines: Vec<String> = request.chunks(16).map(line).collect();
+    lines[3] = "O2\n".to_string();
+    assert!(matches!(frames(&lines.concat()), Err(Strange::Word { line: 4, .. })));
+    // where no frame is accepted it may be a part of any
+    for text in
+        [wrapped(&one, 16).replacen("AA", "AO", 1), line(&with(&one, 26, 0)) + "O2\n" + &line(&with(&two, 26, 0))]
+    {
         assert!(matches!(frames(&text), Err(Strange::Word { .. })), "{text}");
     }
 }
