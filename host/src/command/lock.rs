@@ -85,15 +85,11 @@ fn is_same(a: &Metadata, b: &Metadata) -> bool {
 #[cfg(test)]
 mod tests {
     use super::*;
-
-    // The path of a record that is not there, for one test.
-    fn record(test: &str) -> PathBuf {
-        std::env::temp_dir().join(format!("thoweldeck-{test}-{}.record", std::process::id()))
-    }
+    use crate::command::made::absent;
 
     #[test]
     fn a_run_waits_for_another_and_not_for_ever() {
-        let record = record("wait");
+        let record = absent("wait");
         let lock = Lock::of(&record, &record, WAIT).expect("a lock");
         let (start, wait) = (Instant::now(), Duration::from_millis(50));
         let failure = Lock::of(Path::new("a.record"), &record, wait).err().expect("it is locked");
@@ -106,7 +102,7 @@ mod tests {
 
     #[test]
     fn a_lock_whose_file_was_removed_is_none() {
-        let path = beside(&record("removed"), "lock").expect("a name");
+        let path = beside(&absent("removed"), "lock").expect("a name");
         let open = || opened(&path).expect("the file of a lock");
         let (early, earlier) = (open(), open());
         let first = Lock::on(open(), &path).expect("no error").expect("a lock");

@@ -10,6 +10,8 @@ mod input;
 mod join;
 mod list;
 mod lock;
+#[cfg(test)]
+mod made;
 mod names;
 mod out;
 mod paths;

@@ -200,6 +200,7 @@ use tests::noted;
 #[cfg(test)]
 mod tests {
     use super::*;
+    use crate::command::made::absent;
     use std::cell::RefCell;
 
     thread_local!(static STEPS: RefCell<Vec<&'static str>> = const { RefCell::new(Vec::new()) });
@@ -213,14 +214,9 @@ mod tests {
         STEPS.with(|steps| steps.take())
     }
 
-    // The path of a record that is not there, for one test.
-    fn record(test: &str) -> PathBuf {
-        std::env::temp_dir().join(format!("thoweldeck-{test}-{}.record", std::process::id()))
-    }
-
     #[test]
     fn bytes_and_name_are_brought_to_the_disk_in_this_order() {
-        let record = record("order");
+        let record = absent("order");
         let order = ["the new file", "its name", "the folder"];
         let target = Target::lock(&record).expect("the lock");
         target.create(b"first").expect("it is written");
@@ -233,7 +229,7 @@ mod tests {
 
     #[test]
     fn what_is_protected_while_another_run_is_waited_for_is_left() {
-        let record = record("protected");
+        let record = absent("protected");
         fs::write(&record, b"first").expect("a file");
         let target = Target::lock(&record).expect("the lock");
         let mut permissions = fs::metadata(&record).expect("the file").permissions();
@@ -247,7 +243,7 @@ mod tests {
 
     #[test]
     fn what_is_not_as_before_is_told() {
-        let record = record("notes");
+        let record = absent("notes");
         fs::write(&record, b"first").expect("a file");
         let target = Target::lock(&record).expect("the lock");
         let (old, name) = (fs::metadata(&record).expect("the file"), shown(&record));
@@ -264,6 +260,6 @@ mod tests {
         let error = File::open("/dev/null").expect("a device").sync_all().expect_err("it cannot");
         assert_eq!(error.kind(), ErrorKind::InvalidInput);
         assert!(folder_synced(Path::new("/dev/null")).is_ok());
-        assert!(folder_synced(&record("absent")).is_err());
+        assert!(folder_synced(&absent("absent")).is_err());
     }
 }

@@ -157,6 +157,7 @@ fn steps(kind: Kind, frame: &[u8], out: &mut Out<'_>) {
 mod tests {
     use super::*;
     use crate::command::input::{Form, Heard};
+    use crate::command::made::chance;
 
     const PIECE: &[u8] = include_bytes!(concat!(env!("CARGO_MANIFEST_DIR"), "/samples/survey/first/01.frame"));
     const ENTRY: &[u8] = include_bytes!(concat!(env!("CARGO_MANIFEST_DIR"), "/samples/survey/entry.frame"));
@@ -199,11 +200,7 @@ mod tests {
 
     #[test]
     fn anything_is_explained() {
-        let mut state = 1u64;
-        let mut next = move || {
-            state = state.wrapping_mul(6_364_136_223_846_793_005).wrapping_add(1_442_695_040_888_963_407);
-            (state >> 33) as usize
-        };
+        let mut next = chance(1);
         let mut reception = Reception::open(1201, 2358).expect("a length");
         reception.take(PIECE).expect("a sample");
         let bases = [ENTRY.to_vec(), PIECE.to_vec(), reception.save(), Vec::new()];

@@ -107,27 +107,7 @@ pub fn lines(piece: &Piece<'_>, reception: &Reception) -> Vec<String> {
 #[cfg(test)]
 mod tests {
     use super::*;
-    use thoweldeck::remainder;
-
-    // A frame with a piece of a file.
-    fn frame(number: u32, offset: u32, bytes: &[u8]) -> Vec<u8> {
-        let mut frame = b"\xA2\xA6\xA8\x40\x40\x40\x60\xAA\x9E\xA6\x82\xA8\x6A\x77\x03\xBB\x02".to_vec();
-        frame.extend(number.to_le_bytes());
-        frame.push(0);
-        frame.extend(&offset.to_le_bytes()[..3]);
-        frame.extend(bytes);
-        let check = remainder(&frame[16..]);
-        frame.extend(check.to_be_bytes());
-        frame
-    }
-
-    // The example of the rules: file 7, 20 bytes, of which 0 to 3 and 8 to 9 are held.
-    fn example() -> Reception {
-        let mut reception = Reception::open(7, 20).expect("a length");
-        reception.take(&frame(7, 0, b"ABCD")).expect("a piece");
-        reception.take(&frame(7, 8, b"EF")).expect("a piece");
-        reception
-    }
+    use crate::command::made::{example, piece as frame};
 
     // The count of new positions that the lines on a frame tell, and the count of bytes that they tell of holes.
     fn counts(frame: &[u8], reception: &Reception) -> (usize, usize) {

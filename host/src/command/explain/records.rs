@@ -179,10 +179,7 @@ fn turned_over(fault: Fault) -> Fault {
 #[cfg(test)]
 mod tests {
     use super::*;
-
-    // The example of the rules: file 7, 20 bytes, of which 0 to 3 and 8 to 9 are held.
-    const EXAMPLE: &[u8; 43] = b"\x01\x04\0\x07\0\0\0\x02\x04\0\x14\0\0\0\x03\x03\0\x0F\x03\0\x04\x14\0\
-        ABCD\0\0\0\0EF\0\0\0\0\0\0\0\0\0\0";
+    use crate::command::made::example;
 
     // A record of a length, in which every third position is held.
     fn record(length: u32) -> Vec<u8> {
@@ -209,7 +206,7 @@ mod tests {
     #[test]
     fn a_fault_is_found_exactly_if_the_library_refuses() {
         let mut counts = [0, 0];
-        for whole in [EXAMPLE.to_vec(), record(1), record(8), record(9), record(60)] {
+        for whole in [example().save(), record(1), record(8), record(9), record(60)] {
             assert!(!same(&whole));
             for place in 0..whole.len() {
                 for byte in (0..8).map(|bit| whole[place] ^ 1 << bit).chain([0x00, 0x01, 0x80, 0xFF]) {
@@ -260,7 +257,7 @@ mod tests {
 
     // The place and the sentence of the fault in the example with some bytes changed.
     fn told(changes: &[(usize, u8)]) -> (Option<usize>, String) {
-        let mut record = EXAMPLE.to_vec();
+        let mut record = example().save();
         for (place, byte) in changes {
             record[*place] = *byte;
         }
@@ -286,13 +283,16 @@ mod tests {
         assert_eq!(told(&[(19, 0x10), (20, 0x05), (27, 0x45)]), is(19, spare));
         assert_eq!(told(&[(27, 0x45), (40, 0x45)]), is(27, unheld));
         let sentence = |bytes: &[u8]| walked(&mut Walk::over(bytes)).expect("a fault").sentence;
-        assert_eq!(sentence(&EXAMPLE[..30]), "it is cut off at place 30, inside the buffer, with 13 bytes missing");
         assert_eq!(
-            sentence(&EXAMPLE[..16]),
+            sentence(&example().save()[..30]),
+            "it is cut off at place 30, inside the buffer, with 13 bytes missing"
+        );
+        assert_eq!(
+            sentence(&example().save()[..16]),
             "it is cut off at place 16, inside the data length of the map, with 1 byte missing"
         );
-        assert_eq!(sentence(&EXAMPLE[..7]), "it is cut off at place 7, before tag 02");
-        let behind = [&EXAMPLE[..], b"\n"].concat();
+        assert_eq!(sentence(&example().save()[..7]), "it is cut off at place 7, before tag 02");
+        let behind = [&example().save()[..], b"\n"].concat();
         assert_eq!(sentence(&behind), "nothing may follow the buffer, and at place 43 there is more");
     }
 

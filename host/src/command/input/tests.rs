@@ -1,25 +1,7 @@
 //! Inputs: what is a text, how digits are written, and what is refused in which words.
+use super::super::made::{chance, piece};
 use super::*;
-use thoweldeck::{remainder, Entry, Piece, Request};
-
-/// A frame with a piece of file 7.
-pub fn piece(offset: u32, data: &[u8]) -> Vec<u8> {
-    let mut frame = b"\xA2\xA6\xA8\x40\x40\x40\x62\xAA\x9E\xA6\x82\xA8\x6A\x77\x03\xBB\x02\x07\0\0\0\0".to_vec();
-    frame.extend(&offset.to_le_bytes()[..3]);
-    frame.extend(data);
-    let check = remainder(&frame[16..]);
-    frame.extend(check.to_be_bytes());
-    frame
-}
-
-/// Numbers that look like chance, the same in each run.
-pub fn chance(seed: u64) -> impl FnMut() -> usize {
-    let mut state = seed;
-    move || {
-        state = state.wrapping_mul(6_364_136_223_846_793_005).wrapping_add(1_442_695_040_888_963_407);
-        (state >> 33) as usize
-    }
-}
+use thoweldeck::{Entry, Piece, Request};
 
 // The bytes of the only frame of an input in hexadecimal.
 fn only(input: &[u8]) -> Vec<u8> {
@@ -55,7 +37,7 @@ fn no_frame_that_is_accepted_is_a_text() {
     let start = Request::start("123456-1".parse().unwrap(), "98-2".parse().unwrap(), 0x2020_2020);
     let entry = include_bytes!(concat!(env!("CARGO_MANIFEST_DIR"), "/samples/survey/entry.frame"));
     let data: Vec<u8> = (0..244).map(|_| b' ' + (next() % 95) as u8).collect();
-    for frame in [start, entry.to_vec(), piece(0x20_2020, &data)] {
+    for frame in [start, entry.to_vec(), piece(7, 0x20_2020, &data)] {
         for value in 0..=255 {
             let mut frame = frame.clone();
             frame[14] = value;

@@ -1,7 +1,7 @@
 //! Dumps of any bytes, as the programs write them, are read as these bytes; a dump that is not whole is refused.
-use super::super::tests::chance;
 use super::super::{frames, Form, Heard};
 use crate::command::bytes::characters;
+use crate::command::made::{chance, piece};
 
 // What `hexdump -C` writes for bytes, where lines that repeat are a `*`.
 fn hexdump(bytes: &[u8]) -> String {
@@ -190,7 +190,7 @@ fn an_order_of_bytes_that_is_not_told_is_refused() {
 
 #[test]
 fn a_dump_that_cannot_be_read_takes_nothing_from_the_others() {
-    let frame = super::super::tests::piece(4, b"a piece of a file");
+    let frame = piece(7, 4, b"a piece of a file");
     let broken = hexdump(&frame).replacen("00000010", "00000011", 1);
     let text = format!("{}{broken}{}", hexdump(&frame), xxd(&frame, 16, 2));
     let read = frames(text.as_bytes()).expect("two frames");

@@ -1,6 +1,6 @@
 //! Texts with one frame and with several, in a line each or in several, whole and damaged.
-use super::super::tests::{chance, piece};
 use super::*;
+use crate::command::made::{chance, piece};
 use thoweldeck::{Address, Reception};
 
 const FIGURES: [&str; 2] = [
@@ -35,7 +35,7 @@ fn request(holes: u32) -> Vec<u8> {
     let (server, station): (Address, Address) = ("UOSAT5-11".parse().unwrap(), "VA3SFL-0".parse().unwrap());
     let mut reception = Reception::open(7, 2 * holes).expect("a length in range");
     for position in 0..holes {
-        reception.take(&piece(2 * position, b"x")).expect("a piece");
+        reception.take(&piece(7, 2 * position, b"x")).expect("a piece");
     }
     let request = reception.requests(server, station).next().expect("a request");
     assert_eq!(request.len(), 23 + 5 * holes as usize);
@@ -53,7 +53,7 @@ fn with(frame: &[u8], place: usize, byte: u8) -> Vec<u8> {
 fn each_line_is_a_frame() {
     let requests = [request(1), request(49)];
     assert_eq!(read(&(line(&requests[0]) + &line(&requests[1]))), [(1, requests[0].clone()), (2, requests[1].clone())]);
-    let pieces: Vec<Vec<u8>> = (0..50).map(|index| piece(index * 16, &[index as u8; 16])).collect();
+    let pieces: Vec<Vec<u8>> = (0..50).map(|index| piece(7, index * 16, &[index as u8; 16])).collect();
     let text: String = pieces.iter().map(|piece| format!("# a piece\n\n{}", line(piece))).collect();
     let wanted: Vec<(usize, Vec<u8>)> = pieces.into_iter().enumerate().map(|(i, piece)| (3 * i + 3, piece)).collect();
     assert_eq!(read(&text), wanted);
@@ -61,7 +61,7 @@ fn each_line_is_a_frame() {
 
 #[test]
 fn each_line_is_a_frame_where_some_are_damaged() {
-    let good = piece(4, b"a piece of a file");
+    let good = piece(7, 4, b"a piece of a file");
     let damages = [
         with(&good, 30, 0x00),
         with(&good, 3, 0x41),
@@ -77,7 +77,7 @@ fn each_line_is_a_frame_where_some_are_damaged() {
         [&good[..], &good[..]].concat(),
         vec![0],
     ];
-    let others = [request(2), figure(0), figure(1), piece(9, b"x")];
+    let others = [request(2), figure(0), figure(1), piece(7, 9, b"x")];
     for damaged in &damages {
         for other in &others {
             for order in [vec![damaged, other], vec![other, damaged], vec![other, damaged, damaged, other, damaged]] {
@@ -93,14 +93,14 @@ fn each_line_is_a_frame_where_some_are_damaged() {
     let text: String = all.iter().map(|frame| line(frame)).collect();
     assert_eq!(read(&text).len(), 3);
     // or they are wider than a frame is cut
-    let wide = piece(0, &[b'x'; 60]);
+    let wide = piece(7, 0, &[b'x'; 60]);
     assert_eq!(read(&(line(&with(&wide, 30, 0)) + &line(&with(&wide, 3, 0x41)))).len(), 2);
 }
 
 #[test]
 fn one_frame_in_several_lines() {
     let requests = [request(1), request(6), request(25), request(49)];
-    for frame in [figure(0), figure(1), piece(4, b"a piece of a file")].iter().chain(&requests) {
+    for frame in [figure(0), figure(1), piece(7, 4, b"a piece of a file")].iter().chain(&requests) {
         for width in 1..=frame.len() {
             assert_eq!(read(&wrapped(frame, width)), [(1, frame.clone())], "{width}");
         }
@@ -116,8 +116,8 @@ fn one_frame_in_several_lines() {
 #[test]
 fn a_check_that_fits_by_chance_cuts_no_frame() {
     // behind the first data stand the two bytes that would be their check, and behind them more data
-    let check = thoweldeck::remainder(&piece(0, b"abc")[16..28]).to_be_bytes();
-    let frame = piece(0, &[b"abc", &check[..], b" and the rest of the piece"].concat());
+    let check = thoweldeck::remainder(&piece(7, 0, b"abc")[16..28]).to_be_bytes();
+    let frame = piece(7, 0, &[b"abc", &check[..], b" and the rest of the piece"].concat());
     assert!(is_frame(&frame[..30]) && is_frame(&frame));
     for width in [1, 2, 3, 5, 6, 10, 15, 30] {
         assert_eq!(read(&wrapped(&frame, width)), [(1, frame.clone())], "{width}");
@@ -129,10 +129,10 @@ fn a_check_that_fits_by_chance_cuts_no_frame() {
 
 #[test]
 fn a_frame_among_the_data_of_a_piece_is_no_frame() {
-    let inner = piece(100, b"inner");
+    let inner = piece(7, 100, b"inner");
     assert_eq!(inner.len(), 32);
     // the inner one stands in a line of its own, where the outer one is cut into lines of 32 or 16 bytes
-    let outer = piece(0, &[&[b'.'; 7][..], &inner, b"and so on"].concat());
+    let outer = piece(7, 0, &[&[b'.'; 7][..], &inner, b"and so on"].concat());
     for width in [16, 32] {
         assert_eq!(read(&wrapped(&outer, width)), [(1, outer.clone())], "{width}");
         let both: Vec<Vec<u8>> = read(&wrapped(&outer, width).repeat(2)).into_iter().map(|(_, frame)| frame).collect();
@@ -171,7 +171,7 @@ fn several_frames_in_several_lines_each() {
         assert_eq!(read(&text)[1].1, figures[0]);
     }
     // one in a line, one in several, and one in a line again
-    let (first, last) = (piece(0, b"a"), piece(1, b"b"));
+    let (first, last) = (piece(7, 0, b"a"), piece(7, 1, b"b"));
     let text = line(&first) + &wrapped(&figures[0], 16) + &line(&last);
     assert_eq!(read(&text), [(1, first), (2, figures[0].clone()), (10, last)]);
     // two that are both damaged
@@ -189,7 +189,7 @@ fn a_line_that_almost_begins_as_a_frame_begins_none() {
     lines[1][13] = 0x00;
     lines[2][12] = 0x01;
     for near in lines {
-        let mut frame = piece(0, &[&[0; 7][..], &near, b"abc"].concat());
+        let mut frame = piece(7, 0, &[&[0; 7][..], &near, b"abc"].concat());
         frame[20] = 0xFF;
         assert_eq!(read(&wrapped(&frame, 16)), [(1, frame.clone())], "{near:02X?}");
     }
@@ -197,8 +197,8 @@ fn a_line_that_almost_begins_as_a_frame_begins_none() {
 
 #[test]
 fn frames_inside_a_piece_are_its_data() {
-    let inside = [&[0; 7][..], &piece(0, b"a"), &[0; 4], &piece(1, b"b"), &[0; 4], &request(1)].concat();
-    let frame = piece(0, &inside);
+    let inside = [&[0; 7][..], &piece(7, 0, b"a"), &[0; 4], &piece(7, 1, b"b"), &[0; 4], &request(1)].concat();
+    let frame = piece(7, 0, &inside);
     // the frames in it stand at places 32, 64 and 96
     for width in [8, 16] {
         assert_eq!(read(&wrapped(&frame, width)), [(1, frame.clone())], "{width}");
@@ -212,7 +212,7 @@ fn every_good_line_is_found() {
         let mut lines: Vec<(Vec<u8>, bool)> = Vec::new();
         for _ in 0..next() % 12 + 1 {
             let data: Vec<u8> = (0..next() % 60 + 1).map(|_| next() as u8).collect();
-            let mut frame = piece(next() as u32 % 100, &data);
+            let mut frame = piece(7, next() as u32 % 100, &data);
             let is_good = next() % 3 > 0;
             if !is_good {
                 let place = next() % frame.len();
@@ -230,7 +230,7 @@ fn every_good_line_is_found() {
 
 #[test]
 fn a_line_that_cannot_be_read_takes_nothing_from_the_others() {
-    let (one, two) = (piece(0, b"ABCD"), piece(4, b"EFGH"));
+    let (one, two) = (piece(7, 0, b"ABCD"), piece(7, 4, b"EFGH"));
     let text = format!("{}heard at noon\n{}A2 A\n", line(&one), line(&two));
     let read = frames(&text).expect("two frames");
     let lines: Vec<(Option<usize>, &[u8])> = read.frames.iter().map(|one| (one.line, &one.bytes[..])).collect();
