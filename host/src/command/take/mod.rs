@@ -16,11 +16,11 @@ use thoweldeck::{Entry, Piece, Reason, Reception, Request};
 
 pub fn run(words: Words, out: &mut Out<'_>) -> End {
     // whatever stands in the way, no frame is taken then, and the status says so
-    taken(&words, out).map_err(|failure| Failure::Trouble(failure.to_string()))
+    take(&words, out).map_err(|failure| Failure::Trouble(failure.to_string()))
 }
 
 // Takes the frames that the words name.
-fn taken(words: &Words, out: &mut Out<'_>) -> End {
+fn take(words: &Words, out: &mut Out<'_>) -> End {
     let (path, names) = words.first_and_others("a record", "the frames to take")?;
     let wanted = Wanted {
         number: words.said("--number", "the number of a file")?,
@@ -131,8 +131,10 @@ impl Named {
             Err(reason) => match looks::stray(frame) {
                 Some(line) => (Came::Unread, line),
                 None => {
-                    let hint = looks::with_link_check(frame).map_or(String::new(), |line| format!("; {line}"));
-                    (Came::refused(reason), format!("refused, {}{hint}", Cause::of_piece(frame, reception, reason)))
+                    let came = Came::refused(reason);
+                    let hint = looks::with_link_check(frame).filter(|_| came == Came::Damaged);
+                    let hint = hint.map_or(String::new(), |line| format!("; {line}"));
+                    (came, format!("refused, {}{hint}", Cause::of_piece(frame, reception, reason)))
                 }
             },
         }
