@@ -117,7 +117,7 @@ thoweldeck list FOLDER
 
 const END: &str = "\
 Nothing is lost: what is written goes into a new file, which takes the name once it is whole, and
-runs that write one record wait for each other, half a minute at most.
+runs that write one record wait for each other, a minute at most.
 
 The exit status:
    0  It is done. In `take`: all that was named was read, and what could be used is in the record.

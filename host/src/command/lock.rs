@@ -12,7 +12,7 @@ use std::time::{Duration, Instant};
 use thoweldeck::lock::try_lock;
 
 /// How long a run waits for others.
-pub const WAIT: Duration = Duration::from_secs(30);
+pub const WAIT: Duration = Duration::from_secs(60);
 
 /// Keeps other runs from a file as long as this is there: an empty file beside it, which is locked. The operating system
 /// frees the lock of a run that is killed; the empty file that it leaves is locked by the next run as any other.
