@@ -89,6 +89,42 @@ fn every_link_leads_to_a_file() {
 }
 
 #[test]
+fn the_papers_have_their_names_where_they_are_met() {
+    for name in [
+        "docs/HOST.md",
+        "docs/ARCHITECTURE.md",
+        "docs/DECISIONS.md",
+        "docs/PROMISES.md",
+        "docs/CASES.md",
+        "host/samples/README.md",
+    ] {
+        let page = page(name);
+        let met = ["01", "000", "002", "thesis"].iter().filter_map(|paper| first(&page, paper)).min().expect("a paper");
+        let named = ["Halliday", "\"The papers\""].iter().filter_map(|text| page.find(text)).min();
+        let line = |place: usize| page[..place].lines().count();
+        let named = named.unwrap_or_else(|| panic!("{name}: the papers have no name"));
+        assert!(line(named) <= line(met) + 6, "{name}: met in line {}, named in line {}", line(met), line(named));
+    }
+}
+
+// Where a word first stands by itself in a page, outside of what a command prints.
+fn first(page: &str, word: &str) -> Option<usize> {
+    let blocks = page.split("```").scan(0, |place, block| {
+        let start = *place;
+        *place += block.len() + 3;
+        Some((start, block))
+    });
+    let is_part = |c: Option<char>| c.map_or(false, |c| c.is_alphanumeric() || c == '-' || c == '.' || c == ',');
+    blocks.step_by(2).find_map(|(start, block)| {
+        let stands_alone = |(place, _): &(usize, &str)| {
+            !is_part(block[..*place].chars().next_back())
+                && !block[place + word.len()..].chars().next().map_or(false, |c| c.is_alphanumeric())
+        };
+        block.match_indices(word).find(stands_alone).map(|(place, _)| start + place)
+    })
+}
+
+#[test]
 fn the_page_shows_the_example_as_it_is() {
     let host = Path::new(env!("CARGO_MANIFEST_DIR"));
     let example = fs::read_to_string(host.join("examples/station.rs")).expect("the example");
