@@ -1,7 +1,7 @@
 -- Demand 3 over pieces: what a station holds after a sequence of pieces, and what joining receptions of one file gives.
 -- Assumes nothing.
 use mathlib.Core.Path.{_≡_, refl, sym, ap, ap₂, _∙_}
-use mathlib.Core.Bool.{Bool, true, false, cond, not, _&&_, _||_, and-true, and-not-self, or-true, or-false, or-self, or-assoc, or-comm}
+use mathlib.Core.Bool.{Bool, true, false, cond, not, _&&_, _||_, and-true, and-not-self, or-false, or-self, or-assoc, or-comm}
 use mathlib.Core.List.{List, [], _∷_, _++_}
 use Prim.Native.Nat.{ℕ, _*_, _<_}
 use native.Mathlib.Omega.{arith}
@@ -11,7 +11,7 @@ use Rattle.reason.specs.Answer.{Answer, accepted, refused, isAccepted}
 use Rattle.octets.specs.Numbers.{byteAt, AllBytes}
 use Rattle.positions.specs.Spans.{within, count}
 use Rattle.positions.specs.Map.{held}
-use Rattle.positions.proofs.SpanLaws.{in-span, count-same, count-zero}
+use Rattle.positions.proofs.SpanLaws.{in-span, span-high, count-same, count-zero}
 use Rattle.positions.proofs.MapLaws.{map-long, held-map}
 use Rattle.reception.specs.Reception.{Reception, Piece, wrongLength}
 use Rattle.reception.specs.Adding.{ofPiece, offered, after}
@@ -20,7 +20,7 @@ use Rattle.reception.specs.Taking.{taking, taken}
 use Rattle.reception.specs.Joining.{joining, joined}
 use Rattle.reception.specs.Listing.{listing}
 use Rattle.reception.specs.Sequences.{takenAll, coveredIn, fits, covers, covered, AgreesWith, AllAgree}
-use Rattle.reception.specs.Stations.{Station, receptionOf, Made, station, together}
+use Rattle.reception.specs.Stations.{Station, receptionOf}
 use Rattle.reception.specs.Contents.{HoldsOf, itself, beyond}
 use Rattle.reception.proofs.GivenReasons.{opens-only-if}
 use Rattle.reception.proofs.Holding.{same-reception, fits-inside, opened-holds, told, fitting-is-taken, unfitting-is-refused, taken-holds, join-accepted, joined-holds}
@@ -178,78 +178,39 @@ module _ (number l : ℕ) (file : List ℕ) (ok : wrongLength l ≡ false) where
 
   -- ---- a repeat does not spoil a file
 
-  -- the station a after one piece more
-  abbrev pub one-more-piece : Station number l file → (x : Piece) → (fits number l x ≡ true → AgreesWith file x) → Station number l file
-  one-more-piece a x agree = record {
-    map = a .map;
-    buffer = a .buffer;
-    bytes = a .bytes;
-    opens = a .opens;
-    pieces = a .pieces ++ (x ∷ []);
-    agree = all-agree (a .pieces) (x ∷ []) (a .agree) (agree, tt);
-  }
+  -- a piece that fits and agrees, whose positions are all held: it counts 0, and nothing changes
+  module _ (S : ℕ → Bool) (s : Reception) (h : HoldsOf number l file S s) (x : Piece) (fit : fits number l x ≡ true) (agree : AgreesWith file x)
+      (all : (p : ℕ) → within (x .offset) (length (x .bytes)) p ≡ true → held (s .map) p ≡ true) where
+    pub held-counts-0 : taking s x ≡ accepted 0
+    held-counts-0 =
+        fitting-is-taken number l file ok S s h x fit agree
+        ∙ ap accepted (count-zero (λ p. true && not (held (s .map) p)) (x .offset) (length (x .bytes))
+        (λ p low g. ap not (all p (in-span (x .offset) (length (x .bytes)) p low g))))
 
-  module _ (a : Station number l file) (x : Piece) (fit : fits number l x ≡ true) (agree : AgreesWith file x) where
-    covered-already : (p : ℕ) → within (x .offset) (length (x .bytes)) p ≡ true → covered number l (a .pieces ++ (x ∷ [])) p ≡ true
-    covered-already p w = covered-both (a .pieces) (x ∷ []) p ∙ rw (fit, w) (or-true (covered number l (a .pieces) p))
+    adds-nothing : (p : ℕ) (w : Bool) → within (x .offset) (length (x .bytes)) p ≡ w → (S p || covers number l x p) ≡ S p
+    adds-nothing p true w =
+        let ends = fits-inside number l x fit in
+        let high = span-high (x .offset) (length (x .bytes)) p w in
+        let there : S p ≡ true = sym (h .holds p (omega (arith, ends, high))) ∙ all p w in
+        ap (λ (b : Bool). b || covers number l x p) there ∙ sym there
+    adds-nothing p false w = ap₂ (λ (f v : Bool). S p || f && v) fit w ∙ or-false (S p)
 
-    -- the same piece again: 0 new positions
-    pub repeat-counts-0 : taking (receptionOf (one-more-piece a x (λ _. agree))) x ≡ accepted 0
-    repeat-counts-0 =
-        piece-is-taken (one-more-piece a x (λ _. agree)) x fit agree
-        ∙ ap accepted (count-zero (λ p. not (covered number l (a .pieces ++ (x ∷ [])) p)) (x .offset) (length (x .bytes))
-        (λ p low g. ap not (covered-already p (in-span (x .offset) (length (x .bytes)) p low g))))
+    pub held-changes-nothing : taken s x ≡ s
+    held-changes-nothing =
+        all-of-it (taken s x) s
+        (same-reception number l file (λ p. S p || covers number l x p) S (taken s x) s (taken-holds number l file ok S s h x (λ _. agree)) h
+        (λ p _. adds-nothing p (within (x .offset) (length (x .bytes)) p) refl))
+        (taken-beyond s (h .map-bytes) x)
 
-    -- .. and nothing changes
-    pub repeat-changes-nothing : taken (receptionOf (one-more-piece a x (λ _. agree))) x ≡ receptionOf (one-more-piece a x (λ _. agree))
-    repeat-changes-nothing =
-        let b = one-more-piece a x (λ _. agree) in
-        let h = station-holds b in
-        all-of-it (taken (receptionOf b) x) (receptionOf b)
-        (same-reception number l file (λ p. covered number l (b .pieces) p || covers number l x p) (covered number l (b .pieces)) (taken (receptionOf b) x) (receptionOf b)
-        (taken-holds number l file ok (covered number l (b .pieces)) (receptionOf b) h x (λ _. agree)) h (λ p _. by p (within (x .offset) (length (x .bytes)) p) refl))
-        (taken-beyond (receptionOf b) (h .map-bytes) x)
-      where
-        by : (p : ℕ) (w : Bool) → within (x .offset) (length (x .bytes)) p ≡ w
-            → (covered number l (a .pieces ++ (x ∷ [])) p || fits number l x && within (x .offset) (length (x .bytes)) p) ≡ covered number l (a .pieces ++ (x ∷ [])) p
-        by p true w =
-            ap (λ (b : Bool). b || fits number l x && within (x .offset) (length (x .bytes)) p) (covered-already p w) ∙ sym (covered-already p w)
-        by p false w =
-            ap₂ (λ (f v : Bool). covered number l (a .pieces ++ (x ∷ [])) p || f && v) fit w ∙ or-false (covered number l (a .pieces ++ (x ∷ [])) p)
+  -- ---- the laws of joining, among all receptions of the file: whatever set of its positions each holds
 
-  -- ---- the laws of joining, among all receptions of the file that are made in this way
-
-  pub made-holds : (s : Reception) → Made number l file s → (S : ℕ → Bool) × HoldsOf number l file S s
-  made-holds s (station a) = (covered number l (a .pieces), station-holds a)
-  made-holds u (together s t m n) =
-      let h = made-holds s m in
-      let k = made-holds t n in
-      (λ p. h .0 p || k .0 p, joined-holds number l file ok (h .0) (k .0) s t (h .1) (k .1))
-
-  -- no join among them is refused, and it counts the positions that only the second holds
-  pub never-refused : (s t : Reception) → Made number l file s → Made number l file t
-      → joining s t ≡ accepted (count (λ p. held (t .map) p && not (held (s .map) p)) 0 l)
-  never-refused s t m n =
-      let h = made-holds s m in
-      let k = made-holds t n in
-      join-accepted number l file ok (h .0) (k .0) s t (h .1) (k .1)
-      ∙ ap accepted (count-same (λ p. k .0 p && not (h .0 p)) (λ p. held (t .map) p && not (held (s .map) p)) 0 l
-      (λ p _ g. ap₂ (λ (a b : Bool). a && not b) (sym (k .1 .holds p (omega arith))) (sym (h .1 .holds p (omega arith)))))
-
-  module _ (s t : Reception) (m : Made number l file s) (n : Made number l file t) where
-    S : ℕ → Bool
-    S = made-holds s m .0
-
-    T : ℕ → Bool
-    T = made-holds t n .0
-
-    holds-s : HoldsOf number l file S s
-    unfolding S
-    holds-s = made-holds s m .1
-
-    holds-t : HoldsOf number l file T t
-    unfolding T
-    holds-t = made-holds t n .1
+  module _ (S T : ℕ → Bool) (s t : Reception) (holds-s : HoldsOf number l file S s) (holds-t : HoldsOf number l file T t) where
+    -- no join among them is refused, and it counts the positions that only the second holds
+    pub never-refused : joining s t ≡ accepted (count (λ p. held (t .map) p && not (held (s .map) p)) 0 l)
+    never-refused =
+        join-accepted number l file ok S T s t holds-s holds-t
+        ∙ ap accepted (count-same (λ p. T p && not (S p)) (λ p. held (t .map) p && not (held (s .map) p)) 0 l
+        (λ p _ g. ap₂ (λ (a b : Bool). a && not b) (sym (holds-t .holds p (omega arith))) (sym (holds-s .holds p (omega arith)))))
 
     -- either order
     pub either-order : itself (joined s t) ≡ itself (joined t s)
@@ -272,48 +233,43 @@ module _ (number l : ℕ) (file : List ℕ) (ok : wrongLength l ≡ false) where
         ∙ ap accepted (count-zero (λ p. T p && not (S p || T p)) 0 l (λ p _ _. nothing-new (S p) (T p)))
 
     -- any grouping, in all that was lent
-    pub any-grouping : (u : Reception) → Made number l file u → joined (joined s t) u ≡ joined s (joined t u)
-    any-grouping u o =
-        let k = made-holds u o in
+    pub any-grouping : (U : ℕ → Bool) (u : Reception) → HoldsOf number l file U u → joined (joined s t) u ≡ joined s (joined t u)
+    any-grouping U u holds-u =
         let both = joined-holds number l file ok S T s t holds-s holds-t in
         all-of-it (joined (joined s t) u) (joined s (joined t u))
-        (same-reception number l file (λ p. (S p || T p) || k .0 p) (λ p. S p || (T p || k .0 p)) (joined (joined s t) u) (joined s (joined t u))
-        (joined-holds number l file ok (λ p. S p || T p) (k .0) (joined s t) u both (k .1))
-        (joined-holds number l file ok S (λ p. T p || k .0 p) s (joined t u) holds-s (joined-holds number l file ok T (k .0) t u holds-t (k .1)))
-        (λ p _. or-assoc (S p) (T p) (k .0 p)))
+        (same-reception number l file (λ p. (S p || T p) || U p) (λ p. S p || (T p || U p)) (joined (joined s t) u) (joined s (joined t u))
+        (joined-holds number l file ok (λ p. S p || T p) U (joined s t) u both holds-u)
+        (joined-holds number l file ok S (λ p. T p || U p) s (joined t u) holds-s (joined-holds number l file ok T U t u holds-t holds-u))
+        (λ p _. or-assoc (S p) (T p) (U p)))
         (joined-beyond (joined s t) (both .map-bytes) u ∙ joined-beyond s (holds-s .map-bytes) t ∙ sym (joined-beyond s (holds-s .map-bytes) (joined t u)))
 
-  module _ (s : Reception) (m : Made number l file s) where
+  module _ (S : ℕ → Bool) (s : Reception) (h : HoldsOf number l file S s) where
     -- joined with itself
     pub with-itself : joined s s ≡ s
     with-itself =
-        let h = made-holds s m in
         all-of-it (joined s s) s
-        (same-reception number l file (λ p. h .0 p || h .0 p) (h .0) (joined s s) s (joined-holds number l file ok (h .0) (h .0) s s (h .1) (h .1)) (h .1) (λ p _. or-self (h .0 p)))
-        (joined-beyond s (h .1 .map-bytes) s)
+        (same-reception number l file (λ p. S p || S p) S (joined s s) s (joined-holds number l file ok S S s s h h) h (λ p _. or-self (S p)))
+        (joined-beyond s (h .map-bytes) s)
 
     -- a fresh reception is neutral on both sides
     module _ (map buffer : List ℕ) (bytes : AllBytes map) (opens : opening l map buffer ≡ accepted tt) where
       pub fresh-second : joined s (opened number l map buffer) ≡ s
       fresh-second =
-          let h = made-holds s m in
-          let none = opened-holds number l file map buffer (opens-only-if l map buffer opens .1) bytes in
+            let none = opened-holds number l file map buffer (opens-only-if l map buffer opens .1) bytes in
           all-of-it (joined s (opened number l map buffer)) s
-          (same-reception number l file (λ p. h .0 p || false) (h .0) (joined s (opened number l map buffer)) s
-          (joined-holds number l file ok (h .0) (λ p. false) s (opened number l map buffer) (h .1) none) (h .1) (λ p _. or-false (h .0 p)))
-          (joined-beyond s (h .1 .map-bytes) (opened number l map buffer))
+          (same-reception number l file (λ p. S p || false) S (joined s (opened number l map buffer)) s
+          (joined-holds number l file ok S (λ p. false) s (opened number l map buffer) h none) h (λ p _. or-false (S p)))
+          (joined-beyond s (h .map-bytes) (opened number l map buffer))
 
       pub fresh-first : itself (joined (opened number l map buffer) s) ≡ itself s
       fresh-first =
-          let h = made-holds s m in
-          let none = opened-holds number l file map buffer (opens-only-if l map buffer opens .1) bytes in
-          same-reception number l file (h .0) (h .0) (joined (opened number l map buffer) s) s
-          (joined-holds number l file ok (λ p. false) (h .0) (opened number l map buffer) s none (h .1)) (h .1) (λ p _. refl)
+            let none = opened-holds number l file map buffer (opens-only-if l map buffer opens .1) bytes in
+          same-reception number l file S S (joined (opened number l map buffer) s) s
+          (joined-holds number l file ok (λ p. false) S (opened number l map buffer) s none h) h (λ p _. refl)
 
     -- ---- 4. with no hole left, the buffer is the file
     complete : length file ≡ l → ((p : ℕ) → p < l → held (s .map) p ≡ true) → take l (s .buffer) ≡ file
     complete size all =
-        let h = made-holds s m .1 in
         let long = length-take-le l (s .buffer) (h .buffer-long) in
         ext-getD 0 (take l (s .buffer)) file (long ∙ sym size)
         (λ p g. let below : p < l = omega (arith, long, g) in

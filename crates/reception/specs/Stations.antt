@@ -1,4 +1,4 @@
--- Stations that collect one file, and the receptions that they make (demand 3).
+-- Stations that collect one file (demand 3).
 -- Assumes nothing.
 use mathlib.Core.Path.{_≡_}
 use mathlib.Core.List.{List}
@@ -7,7 +7,6 @@ use Rattle.reason.specs.Answer.{accepted}
 use Rattle.octets.specs.Numbers.{AllBytes}
 use Rattle.reception.specs.Reception.{Reception, Piece}
 use Rattle.reception.specs.Opening.{opening, opened}
-use Rattle.reception.specs.Joining.{joined}
 use Rattle.reception.specs.Sequences.{takenAll, AllAgree}
 
 -- A station: the map and the buffer that it was lent (the map a list of bytes), in which the file opens, and the pieces that it
@@ -23,8 +22,3 @@ pub record Station (number l : ℕ) (file : List ℕ) : Type 0 where
 -- what it holds: the file is opened, and the pieces are taken in
 abbrev pub receptionOf : {number l : ℕ} {file : List ℕ} → Station number l file → Reception
 receptionOf {number} {l} a = takenAll (opened number l (a .map) (a .buffer)) (a .pieces)
-
--- the receptions of the file that are made in this way, and by joining such
-pub data Made (number l : ℕ) (file : List ℕ) : Reception → Type 0 where
-  station : (a : Station number l file) → Made number l file (receptionOf a)
-  together : (s t : Reception) → Made number l file s → Made number l file t → Made number l file (joined s t)
