@@ -16,7 +16,7 @@ use Rattle.reason.proofs.Bools.{and-left, and-right, le-or-lt}
 use Rattle.octets.specs.Numbers.{byteAt, numberAt, bytesOf, AllBytes}
 use Rattle.octets.specs.Runs.{putIn}
 use Rattle.octets.proofs.NumberLaws.{bytes-back}
-use Rattle.octets.proofs.RunLaws.{put-within, put-after}
+use Rattle.octets.proofs.RunLaws.{put-drop, put-within, put-after}
 use Rattle.octets.proofs.ValueLaws.{values-same}
 use Rattle.positions.specs.Map.{isSet, held, mapSize}
 use Rattle.positions.proofs.SpanLaws.{all-at}
@@ -48,6 +48,12 @@ module _ (out run : List ℕ) (h : length run ≤ length out) where
       let j = a i in omega (arith, e, j))
       (λ g. let e = front-byte i g in let j = b i in omega (arith, e, j))
       (le-or-lt (length run) i)
+
+  -- what lies behind it stays
+  pub front-behind : (n : ℕ) → length run ≡ n → drop n (putIn out 0 run) ≡ drop n out
+  front-behind n e =
+      let z : n ≡ 0 + length run + 0 = omega (arith, e) in
+      ap (λ (k : ℕ). drop k (putIn out 0 run)) z ∙ put-drop out 0 run (omega arith) 0 ∙ ap (λ (k : ℕ). drop k out) (sym z)
 
 -- ---- a record by what it holds
 -- maps that hold the same positions of a file, and bytes that are the same there, are saved alike

@@ -6,7 +6,7 @@ use mathlib.Core.Logic.{⊎-elim}
 use mathlib.Core.List.{List}
 use Prim.Native.Nat.{ℕ, _+_, _*_, _^_, _≤_, _<_}
 use native.Mathlib.Omega.{arith}
-use lib.ListN.{length, take}
+use lib.ListN.{length, take, drop}
 use borrow.Author.Tests.{le-ltb, not-false}
 use Rattle.reason.specs.Answer.{accepted}
 use Rattle.reason.proofs.Bools.{le-or-lt}
@@ -18,9 +18,9 @@ use Rattle.positions.specs.Map.{held, mapSize}
 use Rattle.positions.proofs.MapLaws.{map-bytes}
 use Rattle.reception.specs.Reception.{Reception, longest, wrongLength, shortSpace}
 use Rattle.reception.specs.Held.{heldOf}
-use Rattle.reception.specs.Contents.{HoldsOf, itself}
+use Rattle.reception.specs.Contents.{HoldsOf, itself, beyond}
 use Rattle.reception.proofs.OfferLaws.{enough-space, right-length}
-use Rattle.reception.proofs.Holding.{same-reception}
+use Rattle.reception.proofs.Holding.{same-reception, space-enough}
 use Rattle.record.specs.declared.Recorded.{Recorded}
 use Rattle.record.specs.Record.{savedMap, savedBytes, recordOf, recordLength}
 use Rattle.record.specs.Reading.{numberIn, lengthIn, mapIn, bytesIn, isRecord, recordedIn, readRecord}
@@ -30,7 +30,7 @@ use Rattle.record.specs.GivenBack.{GivesBack}
 use Rattle.record.proofs.RecordLaws.{saved-map-long, saved-bytes-long, record-long}
 use Rattle.record.proofs.GivenAnswers.{Formed, is-formed, map-in-long, bytes-in-long, reads, saves, loads, room-to-save}
 use Rattle.record.proofs.SavedLaws.{saved-held, held-below, held-beyond, saved-byte-at, saved-number, saved-length, saved-map-in, saved-bytes-in, saved-formed}
-use Rattle.record.proofs.LoadedLaws.{front-byte, front-held, front-bytes, record-same, record-of-parts}
+use Rattle.record.proofs.LoadedLaws.{front-byte, front-held, front-bytes, front-behind, record-same, record-of-parts}
 
 -- ---- saved, and read
 module _ (s : Reception) (right : wrongLength (s .length) ≡ false) (four : s .number < 256 ^ 4) where
@@ -121,6 +121,15 @@ twice : (b : Bool) (x : ℕ) → cond b (cond b x 0) 0 ≡ cond b x 0
 twice true x = refl
 twice false x = refl
 
+-- A reception of a file is saved wherever the target has room.
+pub holding-is-saved : (number l : ℕ) (file : List ℕ) (set : ℕ → Bool) (s : Reception) → HoldsOf number l file set s → wrongLength l ≡ false
+    → (target : List ℕ) → recordLength l ≤ length target → saving s target ≡ accepted (recordLength l)
+holding-is-saved number l file set s h right target room =
+    let z = h .sized in
+    saves s target (ap wrongLength z ∙ right)
+    (ap₂ _||_ (space-enough number l file set s h) (le-ltb (length target) (recordLength (s .length)) (omega (arith, z, room))))
+    ∙ ap (λ (n : ℕ). accepted (recordLength n)) z
+
 module _ (number l : ℕ) (file : List ℕ) (set : ℕ → Bool) (s : Reception) (h : HoldsOf number l file set s) (right : wrongLength l ≡ false)
     (four : number < 256 ^ 4) (map buffer : List ℕ) (room : shortSpace l map buffer ≡ false) (all : AllBytes map) where
   abbrev t : Reception
@@ -163,6 +172,12 @@ module _ (number l : ℕ) (file : List ℕ) (set : ℕ → Bool) (s : Reception)
       let k = front-bytes map (savedMap (s .length) (s .map)) j all (map-bytes (heldOf (s .length) (s .map)) (mapSize (s .length))) i in
       omega (arith, e, k)
 
+  -- It loads into any map and buffer that are long enough, and its number and length are told.
+  pub holding-is-loaded : loading (recordOf s) map buffer ≡ accepted (record { number = number; length = l })
+  holding-is-loaded =
+      loads-it s right-s four-s map buffer room-s
+      ∙ ap₂ (λ (n k : ℕ). let x : Recorded = record { number = n; length = k } in accepted x) (h .numbered) (h .sized)
+
   -- A reception that holds a set of a file's positions is given back as one that holds the same set of the same file.
   pub holding-is-given-back : HoldsOf number l file set (loaded (recordOf s) map buffer)
   holding-is-given-back =
@@ -184,6 +199,22 @@ module _ (number l : ℕ) (file : List ℕ) (set : ℕ → Bool) (s : Reception)
   -- .. so that the reception itself, its map and its buffer, is the same byte for byte
   pub itself-is-given-back : itself (loaded (recordOf s) map buffer) ≡ itself s
   itself-is-given-back = same-reception number l file set set (loaded (recordOf s) map buffer) s holding-is-given-back h (λ p g. refl)
+
+  -- what lies beyond in the lent map and buffer stays
+  map-behind : drop (mapSize (t .length)) (t .map) ≡ drop (mapSize l) map
+  map-behind =
+      ap₂ (λ (n : ℕ) (x : List ℕ). drop (mapSize n) x) (holding-is-given-back .sized) (map-is s right-s four-s map buffer room-s)
+      ∙ front-behind map (savedMap (s .length) (s .map)) (map-room s right-s four-s map buffer room-s) (mapSize l)
+      (saved-map-long (s .length) (s .map) ∙ ap mapSize (h .sized))
+
+  buffer-behind : drop (t .length) (t .buffer) ≡ drop l buffer
+  buffer-behind =
+      ap₂ (λ (n : ℕ) (x : List ℕ). drop n x) (holding-is-given-back .sized) (buffer-is s right-s four-s map buffer room-s)
+      ∙ front-behind buffer (savedBytes (s .length) (s .map) (s .buffer)) (buffer-room s right-s four-s map buffer room-s) l
+      (saved-bytes-long (s .length) (s .map) (s .buffer) ∙ h .sized)
+
+  pub loaded-beyond : beyond (loaded (recordOf s) map buffer) ≡ record { map = drop (mapSize l) map; buffer = drop l buffer }
+  loaded-beyond = ap₂ (λ (m b : List ℕ). record { map = m; buffer = b }) map-behind buffer-behind
 
 -- ---- read, and saved
 -- A list of bytes that is accepted is the record of what it says: nothing else is accepted than what the writer writes.
