@@ -13,12 +13,15 @@ use Rattle.reason.specs.Answer.{Answer, accepted}
 use Rattle.reason.specs.Order.{firstOf}
 use Rattle.reason.proofs.OrderLaws.{accepted-then}
 use Rattle.octets.specs.Numbers.{byteAt, numberAt, bytesOf, AllBytes}
-use Rattle.octets.proofs.NumberLaws.{number-of-bytes, bytes-back}
+use Rattle.octets.proofs.NumberLaws.{number-of-bytes, number-below, bytes-back}
 use Rattle.remainder.specs.Remainder.{remainderOf}
 use Rattle.remainder.specs.Check.{checkRight, withCheck}
 use Rattle.remainder.proofs.CheckLaws.{right-check, right-only-if}
+use Rattle.ax25.specs.declared.Role.the-variants.{Destination, Source}
 use Rattle.ax25.specs.declared.Head.{Head}
+use Rattle.ax25.specs.Address.{isWritable}
 use Rattle.ax25.specs.Head.{headBytes, headChecks, headOf, readHead}
+use Rattle.ax25.proofs.SpellingLaws.{formed-is-writable}
 use Rattle.ax25.proofs.HeadLaws.{head-says}
 use Rattle.ax25.proofs.RoundTrip.{head-before-information, read-head-is-written}
 use Rattle.frame.specs.declared.Piece.{Piece}
@@ -154,3 +157,18 @@ module _ (frame : List ℕ) (p : Piece) (a : AllBytes frame) (e : readPiece fram
   pub accepted-piece-is-made : pieceFrame p (pieceBytes frame) ≡ frame
   accepted-piece-is-made =
       ap₂ (λ (h s : List ℕ). h ++ s) (sym (read-head-is-written file frame (p .head) (Said .head-read) .0)) information-is ∙ take-append-drop 16 frame
+
+  -- .. and they are a piece that can be made: the accepted frames are exactly those that a satellite makes
+  pub accepted-piece-can-be-made : Makeable p (pieceBytes frame)
+  unfolding headOf
+  accepted-piece-can-be-made =
+      let head = Said .head in
+      record {
+        destination = ap (λ (h : Head). isWritable (h .destination)) (head .is) ∙ formed-is-writable Destination frame 0 (head .destination);
+        source = ap (λ (h : Head). isWritable (h .source)) (head .is) ∙ formed-is-writable Source frame 7 (head .source);
+        number = omega (arith, Said .number, number-below 4 frame 17 a);
+        kind = omega (arith, Said .kind, a 21);
+        offset = omega (arith, Said .offset, number-below 3 frame 22 a);
+        some = Said .some;
+        most = Said .most;
+      }

@@ -12,8 +12,8 @@ use lib.Seq.{getD-drop, length-take-le}
 use borrow.Author.Tests.{ltb-false, eqb-true, eqb-false, eq-eqb, not-false}
 use Rattle.reason.specs.Answer.{Answer, accepted, refused}
 use Rattle.reason.specs.Order.{Check, check, First}
-use Rattle.reason.proofs.Bools.{and-left, and-right, le-or-lt}
-use Rattle.reason.proofs.OrderLaws.{accepted-only-if, both-accept}
+use Rattle.reason.proofs.Bools.{and-left, and-right, and-both, le-or-lt}
+use Rattle.reason.proofs.OrderLaws.{accepted-only-if, accepted-then, both-accept}
 use Rattle.octets.specs.Numbers.{byteAt, numberAt}
 use Rattle.octets.proofs.NumberLaws.{number-drop}
 use Rattle.remainder.specs.Check.{checkLength}
@@ -28,8 +28,9 @@ use Rattle.frame.specs.declared.Piece.{Piece}
 use Rattle.frame.specs.declared.Entry.{Entry}
 use Rattle.ax25.specs.Information.{file, directory, informationOf}
 use Rattle.frame.specs.Piece.{beforeData, pieceChecks, pieceFields, pieceOf, readPiece, pieceData, pieceBytes, bytesRead}
-use Rattle.frame.specs.Entry.{flagsAllowed, headerWhole, headerPart, headerRight, entryChecks, entryFields, entryOrder, entryOf, readEntry, headerBytesRead, headerBytes}
-use Rattle.frame.specs.Says.{PieceSays, EntrySays}
+use Rattle.frame.specs.Entry.{beforeHeader, flagsAllowed, headerWhole, headerPart, headerRight, entryChecks, entryFields, entryOrder, entryOf, readEntry, headerBytesRead, headerBytes}
+use Rattle.frame.specs.Says.{PieceSays, EntrySays, EntryRules}
+use Rattle.frame.proofs.EntryLaws.{reads-entry}
 use Rattle.frame.proofs.InOrder.{read-entry-in-order}
 
 -- a byte and a number of the information, at their places in the frame
@@ -132,3 +133,37 @@ eight-says frame e r l =
     let i = informationOf frame in
     let h : headerRight i ≡ true = ap₂ _&&_ (kept (headerPart i) (numberAt 4 i 1) r) (eq-eqb (headerLength (headerPart i)) (length (headerPart i)) l) in
     false≢true (sym (ap (λ (b : Bool). not b || false) h) ∙ eight-is frame e)
+
+-- An entry that keeps every rule is accepted, with its fields ..
+pub entry-is-read : (frame : List ℕ) → EntryRules frame → readEntry frame ≡ accepted (entryOf frame)
+unfolding readEntry
+entry-is-read frame k =
+    let i = informationOf frame in
+    let flags : byteAt i 0 ≡ byteAt frame 16 = byte-in frame 0 in
+    let number : numberAt 4 i 1 ≡ numberAt 4 frame 17 = number-in 4 frame 1 in
+    let offset : numberAt 4 i 5 ≡ numberAt 4 frame 21 = number-in 4 frame 5 in
+    accepted-then (headChecks directory frame) (entryChecks i) (headOf frame) (headOf frame) (entryOf frame) (k .headed)
+    ∙ reads-entry i (entryOf frame) (omega (arith, length-drop 16 frame, k .long)) (k .checked)
+    (ap flagsAllowed flags ∙ and-both _ _ (eq-eqb (byteAt frame 16 % 32) 0 (k .allowed .0)) (eq-eqb (byteAt frame 16 / 128) 0 (k .allowed .1)))
+    (ap₂ headerWhole flags offset ∙ and-both _ _ (eq-eqb (byteAt frame 16 / 32 % 2) 1 (k .whole .0)) (eq-eqb (numberAt 4 frame 21) 0 (k .whole .1)))
+    (ap₂ _&&_ (ap (keepsRules (headerPart i)) number ∙ kept (headerPart i) (numberAt 4 frame 17) (k .ruled))
+    (eq-eqb (headerLength (headerPart i)) (length (headerPart i)) (k .alone)))
+
+-- .. and every accepted entry keeps them.
+pub accepted-entry-keeps : (frame : List ℕ) (e : Entry) → readEntry frame ≡ accepted e → EntryRules frame
+unfolding readEntry entryChecks
+accepted-entry-keeps frame e r =
+    let s = informationOf frame in
+    let two = both-accept (headChecks directory frame) (entryChecks s) (headOf frame) (entryOf frame) e r in
+    let none = accepted-only-if (entryChecks s) (entryOf frame) e (two .1) .0 in
+    let says = entry-says frame e r in
+    let least : beforeHeader + checkLength ≤ length s = ltb-false (length s) (beforeHeader + checkLength) (none .0) in
+    record {
+      headed = two .0;
+      long = omega (arith, least, length-drop 16 frame, says .head .long);
+      checked = says .checked;
+      allowed = rw (sym (says .flags)) (says .allowed);
+      whole = (rw (sym (says .flags)) (says .whole .0), sym (says .offset) ∙ says .whole .1);
+      ruled = rw (sym (says .bytes), sym (says .number)) (says .header .ruled);
+      alone = rw (sym (says .bytes)) (sym (says .header .bytes) ∙ says .alone);
+    }

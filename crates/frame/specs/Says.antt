@@ -7,15 +7,17 @@ use Prim.Native.Nat.{ℕ, _+_, _/_, _%_, _≤_}
 use lib.ListN.{length}
 use Rattle.reason.specs.Answer.{accepted}
 use Rattle.octets.specs.Numbers.{byteAt, numberAt}
-use Rattle.remainder.specs.Check.{checkRight}
-use Rattle.ax25.specs.Head.{readHead}
+use Rattle.remainder.specs.Check.{checkLength, checkRight}
+use Rattle.ax25.specs.Head.{headLength, headOf, readHead}
 use Rattle.ax25.specs.Information.{file, directory, informationOf}
 use Rattle.ax25.specs.Says.{HeadSays}
+use Rattle.header.specs.Header.{headerLength}
+use Rattle.header.specs.Rules.{Rules}
 use Rattle.header.specs.Says.{HeaderSays}
 use Rattle.frame.specs.declared.Piece.{Piece}
 use Rattle.frame.specs.declared.Entry.{Entry}
 use Rattle.frame.specs.Piece.{pieceFlags, pieceOf, pieceData, pieceBytes}
-use Rattle.frame.specs.Entry.{headerPart, headerBytes}
+use Rattle.frame.specs.Entry.{beforeHeader, headerPart, headerBytes}
 
 -- An accepted piece. The longest has 244 bytes, since a frame has at most 271.
 pub record PieceSays (frame : List ℕ) (p : Piece) : Type 0 where
@@ -47,3 +49,15 @@ pub record EntrySays (frame : List ℕ) (e : Entry) : Type 0 where
   pub bytes : headerBytes frame ≡ headerPart (informationOf frame)
   pub header : HeaderSays (headerBytes frame) (e .number) (e .header)
   pub alone : e .header .bytes ≡ length (headerBytes frame)
+
+-- What a directory entry must keep, rule by rule: its head, 19 bytes of information at least, the check, no flag bit but 5 and 6, a
+-- header that is whole, keeps the rules of a header of the entry's file, and ends where the check bytes start. An entry is accepted
+-- exactly if it keeps them.
+pub record EntryRules (frame : List ℕ) : Type 0 where
+  pub headed : readHead directory frame ≡ accepted (headOf frame)
+  pub long : headLength + beforeHeader + checkLength ≤ length frame
+  pub checked : checkRight (informationOf frame) ≡ true
+  pub allowed : (byteAt frame 16 % 32 ≡ 0) × (byteAt frame 16 / 128 ≡ 0)
+  pub whole : (byteAt frame 16 / 32 % 2 ≡ 1) × (numberAt 4 frame 21 ≡ 0)
+  pub ruled : Rules (headerPart (informationOf frame)) (numberAt 4 frame 17)
+  pub alone : headerLength (headerPart (informationOf frame)) ≡ length (headerPart (informationOf frame))
