@@ -2,21 +2,24 @@
 -- Assumes nothing.
 use mathlib.Core.Path.{_≡_, refl, sym, ap, _∙_}
 use mathlib.Core.Bool.{false}
+use mathlib.Core.Logic.{⊎-elim}
 use mathlib.Core.List.{List, [], _∷_}
 use Prim.Native.Nat.{ℕ, zero, suc, _≤_, _<_}
 use native.Mathlib.Omega.{arith}
 use lib.ListN.{length}
 use borrow.Author.Tests.{ltb-false}
 use Rattle.reason.specs.Answer.{Answer, accepted, refused}
-use Rattle.reason.proofs.OrderLaws.{accepted-only-if}
+use Rattle.reason.proofs.Bools.{le-or-lt}
+use Rattle.reason.proofs.OrderLaws.{not-both, accepted-only-if}
 use Rattle.positions.specs.Map.{mapSize}
 use Rattle.reception.specs.declared.Hole.{Hole}
 use Rattle.reception.specs.Reception.{longest, wrongLength}
-use Rattle.reception.specs.Holes.{holeFrom}
+use Rattle.reception.specs.Holes.{holeStart, holeFrom, IsHole}
 use Rattle.reception.specs.Listing.{listingChecks, listing}
 use Rattle.reception.specs.EveryHole.{endOf, goOn, listedFrom}
 use Rattle.reception.proofs.OfferLaws.{right-length}
-use Rattle.reception.proofs.HoleLaws.{hole-is, hole-first, no-more}
+use Rattle.reception.proofs.GivenReasons.{lists-15, lists}
+use Rattle.reception.proofs.HoleLaws.{hole-fixed, hole-behind, hole-is, hole-first, none-only-if, no-more}
 
 module _ (l : ℕ) (map : List ℕ) (place : ℕ) where
   -- where a hole is listed, the length is in range and the map is long enough
@@ -78,3 +81,34 @@ listed-next (suc m) map place hole e =
     let b = listed-bounds (suc m) map place hole e in
     ap (λ (x : Answer Hole). goOn x (λ h. listedFrom m (suc m) map (endOf h))) e
     ∙ ap (λ (holes : List Hole). hole ∷ holes) (sym (no-more (suc m) map (w .0) (w .1) m (endOf hole) (omega (arith, b))))
+
+-- of two holes, the one that starts no later ends no later
+ends-no-later : (l : ℕ) (map : List ℕ) (a b : Hole) → IsHole l map a → IsHole l map b → a .start ≤ b .start → endOf a ≤ endOf b
+ends-no-later l map a b is-a is-b h =
+    ⊎-elim
+    (λ (g : b .start ≤ a .start). omega (arith, ap endOf (hole-fixed l map a b is-a is-b (omega arith))))
+    (λ (g : a .start < b .start). omega (arith, hole-behind l map a b is-a is-b g))
+    (le-or-lt (b .start) (a .start))
+
+-- from a later place as many questions list no more holes
+pub listed-fewer : (n l : ℕ) (map : List ℕ) (p q : ℕ) → p ≤ q → length (listedFrom n l map q) ≤ length (listedFrom n l map p)
+listed-fewer zero l map p q h = omega arith
+listed-fewer (suc n) l map p q h =
+    by (listing l map q) refl (listing l map p) refl (λ a b k. listed-fewer n l map (endOf a) (endOf b) k)
+  where
+    by : (x : Answer Hole) → listing l map q ≡ x → (y : Answer Hole) → listing l map p ≡ y
+        → ((a b : Hole) → endOf a ≤ endOf b → length (listedFrom n l map (endOf b)) ≤ length (listedFrom n l map (endOf a)))
+        → length (goOn x (λ hole. listedFrom n l map (endOf hole))) ≤ length (goOn y (λ hole. listedFrom n l map (endOf hole)))
+    by (refused k) e y f more = omega arith
+    by (accepted b) e (accepted a) f more =
+        let is-b = hole-is l map q b e in
+        let from = hole-first l map q b e .0 in
+        let low : a .start ≤ b .start = hole-first l map p a f .1 b is-b (omega (arith, from, h)) in
+        omega (arith, more a b (ends-no-later l map a b (hole-is l map p a f) is-b low))
+    by (accepted b) e (refused k) f more =
+        let needs = listed-needs l map q b e in
+        let from = hole-first l map q b e .0 in
+        ⊎-elim
+        (λ w. absurd (none-only-if l map p (lists-15 l map p (needs .0) (needs .1) w) b (hole-is l map q b e) (omega (arith, from, h))))
+        (λ w. absurd (not-both (holeFrom l map p) k (lists l map p (needs .0) (needs .1) w) f))
+        (le-or-lt l (holeStart l map p))

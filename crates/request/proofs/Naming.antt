@@ -118,7 +118,7 @@ frames-times (frame ∷ frames) p up =
 
 module _ (w : Wanted) (target : List ℕ) (good : (isWritable (w .head .destination) && isWritable (w .head .source)) ≡ true)
     (number : w .number < 256 ^ 4)
-    (room : frameLength mostHoles ≤ length target) (right : wrongLength (w .length) ≡ false) (long : mapSize (w .length) ≤ length (w .map)) where
+    (room : frameLength (length (holesFrom w 0)) ≤ length target) (right : wrongLength (w .length) ≡ false) (long : mapSize (w .length) ≤ length (w .map)) where
   -- the frames of a whole run
   abbrev Frames : List (List ℕ)
   Frames = sentFrom (w .length) w target 0

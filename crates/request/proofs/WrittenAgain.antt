@@ -211,12 +211,12 @@ module _ (frame : List ℕ) (bytes : AllBytes frame) (r : Request) (read : readR
     holes-are = right-holes-are-listed (holesOf frame) (can .right) (counts .1)
 
     -- An accepted list of holes is what writing gives that asks, from 0, for the holes of a file that misses just these.
-    pub accepted-list-is-written : frameLength mostHoles ≤ length target
+    pub accepted-list-is-written : frameLength (length (holesOf frame)) ≤ length target
         → (filling Missing 0 target ≡ accepted (record { count = length (holesOf frame); end = lastEnd 0 (holesOf frame) })) ×
         (fillFrame Missing 0 ≡ frame)
     accepted-list-is-written room =
         let some = some-listed longest (allBut (holesOf frame)) 0 mostHoles (omega (arith, ap length holes-are, counts .0)) in (
-          fills Missing 0 target both (some .0) (some .1) (omega (arith, ap length holes-are, counts .1))
+          fills Missing 0 target both (some .0) (some .1) (omega (arith, ap length holes-are, room))
               ∙ ap (λ (holes : List Hole). accepted (record { count = length holes; end = lastEnd 0 holes })) holes-are,
           ap₂ (λ (a : Asks) (holes : List Hole). requestFrame (r .head) a (r .number) holes) (sym e) holes-are
               ∙ accepted-request-is-made frame bytes r read,
