@@ -255,7 +255,7 @@ module _ (number l : ℕ) (file : List ℕ) (ok : wrongLength l ≡ false) where
     module _ (map buffer : List ℕ) (bytes : AllBytes map) (opens : opening l map buffer ≡ accepted tt) where
       pub fresh-second : joined s (opened number l map buffer) ≡ s
       fresh-second =
-            let none = opened-holds number l file map buffer (opens-only-if l map buffer opens .1) bytes in
+          let none = opened-holds number l file map buffer (opens-only-if l map buffer opens .1) bytes in
           all-of-it (joined s (opened number l map buffer)) s
           (same-reception number l file (λ p. S p || false) S (joined s (opened number l map buffer)) s
           (joined-holds number l file ok S (λ p. false) s (opened number l map buffer) h none) h (λ p _. or-false (S p)))
@@ -263,7 +263,7 @@ module _ (number l : ℕ) (file : List ℕ) (ok : wrongLength l ≡ false) where
 
       pub fresh-first : itself (joined (opened number l map buffer) s) ≡ itself s
       fresh-first =
-            let none = opened-holds number l file map buffer (opens-only-if l map buffer opens .1) bytes in
+          let none = opened-holds number l file map buffer (opens-only-if l map buffer opens .1) bytes in
           same-reception number l file S S (joined (opened number l map buffer) s) s
           (joined-holds number l file ok (λ p. false) S (opened number l map buffer) s none h) h (λ p _. refl)
 

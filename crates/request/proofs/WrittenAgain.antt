@@ -177,7 +177,7 @@ no-holes : (holes : List Hole) → holesOfKind Start (length holes) ≡ true →
 no-holes [] e = refl
 no-holes (hole ∷ holes) e = let z = eqb-true (length (hole ∷ holes)) 0 e in absurd (omega arith)
 
-module _ (frame : List ℕ) (bytes : AllBytes frame) (r : Request) (read : readRequest frame ≡ accepted r) (target : List ℕ) where
+module _ (frame : List ℕ) (bytes : AllBytes frame) (r : Request) (read : readRequest frame ≡ accepted r) where
   can : Makeable (r .head) (r .asks) (r .number) (holesOf frame)
   can = accepted-request-can-be-made frame bytes r read
 
@@ -185,10 +185,10 @@ module _ (frame : List ℕ) (bytes : AllBytes frame) (r : Request) (read : readR
   both = and-both (isWritable (r .head .destination)) (isWritable (r .head .source)) (can .destination) (can .source)
 
   -- An accepted request for the start is what writing its addresses and its number gives.
-  pub accepted-start-is-written : r .asks ≡ Start → frameLength 0 ≤ length target
+  pub accepted-start-is-written : (target : List ℕ) → r .asks ≡ Start → frameLength 0 ≤ length target
       → starting (r .head) (r .number) target ≡ accepted (putIn target 0 frame)
   unfolding starting
-  accepted-start-is-written e room =
+  accepted-start-is-written target e room =
       let none : holesOf frame ≡ [] = no-holes (holesOf frame) (ap (λ (a : Asks). holesOfKind a (length (holesOf frame))) (sym e) ∙ can .as-many) in
       skip _ _ _ (ap not both)
       ∙ skip _ _ _ (le-ltb _ _ room)
@@ -210,14 +210,16 @@ module _ (frame : List ℕ) (bytes : AllBytes frame) (r : Request) (read : readR
     holes-are : holesFrom Missing 0 ≡ holesOf frame
     holes-are = right-holes-are-listed (holesOf frame) (can .right) (counts .1)
 
-    -- An accepted list of holes is what writing gives that asks, from 0, for the holes of a file that misses just these.
-    pub accepted-list-is-written : frameLength (length (holesOf frame)) ≤ length target
-        → (filling Missing 0 target ≡ accepted (record { count = length (holesOf frame); end = lastEnd 0 (holesOf frame) })) ×
-        (fillFrame Missing 0 ≡ frame)
-    accepted-list-is-written room =
-        let some = some-listed longest (allBut (holesOf frame)) 0 mostHoles (omega (arith, ap length holes-are, counts .0)) in (
-          fills Missing 0 target both (some .0) (some .1) (omega (arith, ap length holes-are, room))
-              ∙ ap (λ (holes : List Hole). accepted (record { count = length holes; end = lastEnd 0 holes })) holes-are,
-          ap₂ (λ (a : Asks) (holes : List Hole). requestFrame (r .head) a (r .number) holes) (sym e) holes-are
-              ∙ accepted-request-is-made frame bytes r read,
-        )
+    -- An accepted list of holes is the frame of a request that asks, from 0, for the holes of a file that misses just these ..
+    pub accepted-list-is-made : fillFrame Missing 0 ≡ frame
+    accepted-list-is-made =
+        ap₂ (λ (a : Asks) (holes : List Hole). requestFrame (r .head) a (r .number) holes) (sym e) holes-are
+        ∙ accepted-request-is-made frame bytes r read
+
+    -- .. and writing that request is accepted by any target that has room for it.
+    pub accepted-list-is-written : (target : List ℕ) → frameLength (length (holesOf frame)) ≤ length target
+        → filling Missing 0 target ≡ accepted (record { count = length (holesOf frame); end = lastEnd 0 (holesOf frame) })
+    accepted-list-is-written target room =
+        let some = some-listed longest (allBut (holesOf frame)) 0 mostHoles (omega (arith, ap length holes-are, counts .0)) in
+        fills Missing 0 target both (some .0) (some .1) (omega (arith, ap length holes-are, room))
+        ∙ ap (λ (holes : List Hole). accepted (record { count = length holes; end = lastEnd 0 holes })) holes-are

@@ -3,35 +3,48 @@
 use mathlib.Core.Path.{_≡_, refl, sym, ap, _∙_}
 use mathlib.Core.Bool.{true, false, and-false}
 use mathlib.Core.Logic.{_⊎_, inl, inr}
-use mathlib.Core.List.{List}
-use Prim.Native.Nat.{ℕ, suc, _^_, _≤_}
+use mathlib.Core.List.{List, [], _∷_}
+use Prim.Native.Nat.{ℕ, zero, suc, _+_, _-_, _^_, _≤_}
 use native.Mathlib.Omega.{arith}
+use lib.ListN.{length, take, drop}
+use lib.Seq.{drop-drop}
 use borrow.Author.Tests.{le-ltb}
 use Rattle.reason.specs.Answer.{Answer, accepted, refused, leaving}
 use Rattle.reason.specs.Order.{Check, First, NoneHolds, Exactly}
+use Rattle.octets.specs.Runs.{putIn}
+use Rattle.octets.proofs.RunLaws.{put-take}
 use Rattle.ax25.specs.Address.{isWritable}
 use Rattle.ax25.specs.Head.{headChecks}
+use Rattle.ax25.specs.Information.{informationOf}
 use Rattle.header.specs.Header.{headerChecks}
 use Rattle.header.proofs.InOrder.{read-header-in-order}
-use Rattle.frame.specs.Piece.{pieceChecks, pieceOrder}
-use Rattle.frame.specs.Entry.{entryChecks, entryOrder}
+use Rattle.frame.specs.declared.Piece.{Piece}
+use Rattle.frame.specs.declared.Entry.{Entry}
+use Rattle.frame.specs.Piece.{pieceChecks, pieceOrder, bytesRead}
+use Rattle.frame.specs.Entry.{entryChecks, entryOrder, headerPart, headerBytesRead}
 use Rattle.frame.proofs.InOrder.{read-piece-in-order, read-entry-in-order}
-use Rattle.reception.specs.Adding.{Offer, ofPiece, after}
+use Rattle.reception.specs.Reception.{Reception}
+use Rattle.reception.specs.Adding.{Offer, ofPiece, ofReception, after}
 use Rattle.reception.specs.Opening.{openingChecks}
-use Rattle.reception.specs.Joining.{joiningChecks}
+use Rattle.reception.specs.Joining.{joiningChecks, joining}
 use Rattle.reception.specs.Listing.{listingChecks}
 use Rattle.reception.proofs.InOrder.{open-in-order, join-in-order, list-in-order}
 use Rattle.request.specs.Reading.{requestChecks, requestOrder}
 use Rattle.request.specs.Writing.{fillChecks, startChecks}
 use Rattle.request.proofs.InOrder.{read-request-in-order, write-fill-in-order, write-start-in-order}
+use Rattle.record.specs.Record.{recordOf, recordLength}
 use Rattle.record.specs.Saving.{savingChecks}
 use Rattle.record.specs.Loading.{loadingChecks}
+use Rattle.record.proofs.RecordLaws.{record-long}
+use Rattle.record.proofs.GivenAnswers.{room-to-save}
 use Rattle.record.proofs.InOrder.{save-in-order, load-in-order}
 use Rattle.station.specs.Taking.{pieceIn, frameChecks, takingFrame}
+use Rattle.station.specs.Lent.{receptionIn}
 use Rattle.station.specs.AddressNumber.{addressOf}
 use Rattle.station.specs.Boundary.{code, Exported}
 use Rattle.station.specs.Demand1.{lastReason}
 use Rattle.station.specs.Exports as out
+use Rattle.station.specs.EntryExports as entry
 use Rattle.station.specs.AtBoundary.{Returns, AtBoundary}
 use Rattle.station.proofs.AddressLaws.{address-back}
 use Rattle.station.proofs.Demand1.{some-or-none, inTable, in-table, take-in-order}
@@ -45,8 +58,8 @@ module _ {A L : Type 0} (checks : List Check) (value : A) (answer : Answer A) (m
   none : NoneHolds checks → code answer ≡ 0
   none holds = ap code (order .accepts-if holds)
 
-  zero : code answer ≡ 0 → NoneHolds checks
-  zero e = by (some-or-none checks)
+  none-held : code answer ≡ 0 → NoneHolds checks
+  none-held e = by (some-or-none checks)
     where
       by : ((n : ℕ) × First n checks) ⊎ NoneHolds checks → NoneHolds checks
       by (inl first) = absurd (omega (arith, reason (first .0) (first .1), e, in-table checks table (first .0) (first .1) .0))
@@ -68,13 +81,31 @@ module _ {A L : Type 0} (checks : List Check) (value : A) (answer : Answer A) (m
 
   returns : Returns checks lent (Exported answer made lent)
   returns = record {
+    met = (code answer, (leaving made lent answer, record { returns = refl; leaves = refl }));
     zero-if = λ r left p holds. p .returns ∙ none holds;
-    zero-only-if = λ r left p e. zero (sym (p .returns) ∙ e);
+    zero-only-if = λ r left p e. none-held (sym (p .returns) ∙ e);
     reason-if = λ r left p n first. p .returns ∙ reason n first;
     reason-only-if = λ r left p n e. order .refuses-only-if (suc n) (refuses n (sym (p .returns) ∙ e));
     numbered = λ r left p. omega (arith, p .returns, most);
     leaves = λ r left p n e. p .leaves ∙ ap (leaving made lent) (refuses n (sym (p .returns) ∙ e));
   }
+
+  -- where 0 is returned, what is left is what the accepted values make
+  told : (r : ℕ) (left : L) → Exported answer made lent r left → r ≡ 0 → (answer ≡ accepted value) × (left ≡ made value)
+  told r left p e = let a = order .accepts-if (none-held (sym (p .returns) ∙ e)) in (a, p .leaves ∙ ap (leaving made lent) a)
+
+-- as many bytes as a front has are that front
+front-again : (n : ℕ) (s : List ℕ) → take (length (take n s)) s ≡ take n s
+front-again zero s = refl
+front-again (suc n) [] = refl
+front-again (suc n) (b ∷ s) = ap (λ (r : List ℕ). b ∷ r) (front-again n s)
+
+-- the record in the first bytes of a target, as many as it has
+record-stands : (s : Reception) (target : List ℕ) → recordLength (s .length) ≤ length target
+    → take (recordLength (s .length)) (putIn target 0 (recordOf s)) ≡ recordOf s
+record-stands s target room =
+    let z : recordLength (s .length) ≡ 0 + length (recordOf s) = omega (arith, record-long s) in
+    ap (λ (n : ℕ). take n (putIn target 0 (recordOf s))) z ∙ put-take target 0 (recordOf s) (omega (arith, z, room))
 
 -- what is left after an answer, as a reception
 counted-after : (number l : ℕ) (lent left : out.Counted) (o : Offer) (x : Answer ℕ) → left ≡ leaving (out.countedWith (out.lentTo number l lent) o) lent x
@@ -105,8 +136,30 @@ at-boundary = record {
   station-write-start = λ head number lent. returns (startChecks head lent) _ _ _ lent refl (write-start-in-order head number lent);
   station-read-request = λ frame lent. returns (requestOrder frame) _ _ _ lent refl (read-request-in-order frame);
   station-hole = λ frame index lent. returns (requestOrder frame) _ _ _ lent refl (read-request-in-order frame);
+  opens-it = λ number l lent left r p e.
+      ap (receptionIn number l) (told (openingChecks l (lent .map) (lent .buffer)) _ _ _ lent refl (open-in-order l (lent .map) (lent .buffer)) r left p e .1);
   takes-in = λ number l frame lent left r p.
       counted-after number l lent left (ofPiece (pieceIn frame)) (takingFrame (out.lentTo number l lent) frame) (p .leaves);
+  joins-in = λ number l t lent left r p.
+      counted-after number l lent left (ofReception t) (joining (out.lentTo number l lent) t) (p .leaves);
+  saves-it = λ s lent left r p e.
+      let is = told (savingChecks s (lent .target)) _ _ _ lent refl (save-in-order s (lent .target)) r left p e in
+      ap (λ (x : out.Sized). take (x .size) (x .target)) (is .1)
+      ∙ record-stands s (lent .target) (room-to-save (s .length) (s .map) (s .buffer) (lent .target) (save-in-order s (lent .target) .accepts-only-if _ (is .0) .0 .1 .0) .2);
+  loads-it = λ saved lent left r p e.
+      told (loadingChecks saved (lent .map) (lent .buffer)) _ _ _ lent refl (load-in-order saved (lent .map) (lent .buffer)) r left p e .1;
+  piece-stands-there = λ frame lent left r p e.
+      let is = told (pieceOrder frame) _ _ _ lent refl (read-piece-in-order frame) r left p e in
+      ap (λ (x : out.PieceNumbers). take (x .size) (drop (x .start) frame)) (is .1)
+      ∙ front-again (length frame - 27) (drop 25 frame)
+      ∙ sym (ap (λ (x : Answer Piece). bytesRead x frame) (is .0));
+  header-stands-there = λ frame lent left r p e.
+      let is = told (entryOrder frame) _ _ _ lent refl (read-entry-in-order frame) r left p e in
+      let i = informationOf frame in
+      ap (λ (x : entry.EntryNumbers). take (x .size) (drop (x .start) frame)) (is .1)
+      ∙ ap (take (length (headerPart i))) (sym (drop-drop 17 16 frame))
+      ∙ front-again (length i - 2 - 17) (drop 17 i)
+      ∙ sym (ap (λ (x : Answer Entry). headerBytesRead x frame) (is .0));
   address-told-back = address-back;
   too-large-a-number = too-large;
 }

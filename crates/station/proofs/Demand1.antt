@@ -10,14 +10,27 @@ use lib.Dec.{leb}
 use borrow.Author.Tests.{leb-true}
 use Rattle.reason.specs.declared.Outcome.{Outcome}
 use Rattle.reason.specs.declared.Outcome.the-variants as done
-use Rattle.reason.specs.Answer.{Answer, accepted, refused, telling, leaving, outcome, Writes}
+use Rattle.reason.specs.Answer.{Answer, accepted, refused, telling, leaving, outcome, Wrote, Writes}
 use Rattle.reason.specs.Order.{Check, check, firstOf, First, NoneHolds, Exactly}
 use Rattle.reason.proofs.Bools.{and-left, and-right}
 use Rattle.reason.proofs.OrderLaws.{not-both, exactly, answered, accepted-only-if}
-use Rattle.ax25.specs.Head.{headChecks}
+use Rattle.ax25.specs.declared.Address.{Address}
+use Rattle.ax25.specs.declared.AddressRead.{AddressRead}
+use Rattle.ax25.specs.declared.AddressRead.the-variants as address
+use Rattle.ax25.specs.declared.Head.{Head}
+use Rattle.ax25.specs.declared.HeadRead.{HeadRead}
+use Rattle.ax25.specs.declared.HeadRead.the-variants as head
+use Rattle.ax25.specs.Address.{readAddress, addressAnswer, writeAddress}
+use Rattle.ax25.specs.Head.{headChecks, readHead, headAnswer, writeHead}
+use Rattle.ax25.proofs.InOrder.{read-address-in-order, write-address-in-order, read-head-in-order, write-head-in-order}
+use Rattle.header.specs.declared.Header.{Header}
+use Rattle.header.specs.declared.HeaderRead.{HeaderRead}
+use Rattle.header.specs.declared.HeaderRead.the-variants as header
+use Rattle.header.specs.Header.{readHeader, headerAnswer}
+use Rattle.header.proofs.InOrder.{read-header-in-order}
 use Rattle.frame.specs.declared.Piece.{Piece}
 use Rattle.frame.specs.declared.PieceRead.{PieceRead}
-use Rattle.frame.specs.declared.PieceRead.the-variants as piece
+use Rattle.frame.specs.declared.PieceRead.the-variants as framed
 use Rattle.frame.specs.declared.Entry.{Entry}
 use Rattle.frame.specs.declared.EntryRead.{EntryRead}
 use Rattle.frame.specs.declared.EntryRead.the-variants as entry
@@ -32,8 +45,10 @@ use Rattle.reception.specs.declared.Listed.the-variants as listed
 use Rattle.reception.specs.Reception.{Reception}
 use Rattle.reception.specs.Adding.{Offer, ofPiece, newIn, mapWith, bufferWith, after, addedAnswer, Adds}
 use Rattle.reception.specs.Opening.{opening, openedMap, openedBuffer}
+use Rattle.reception.specs.Taking.{taking}
 use Rattle.reception.specs.Joining.{joining}
 use Rattle.reception.specs.Listing.{listing, listedAnswer}
+use Rattle.reception.proofs.InOrder as piece
 use Rattle.reception.proofs.InOrder.{open-in-order, join-in-order, list-in-order}
 use Rattle.request.specs.declared.Request.{Request}
 use Rattle.request.specs.declared.RequestRead.{RequestRead}
@@ -107,8 +122,8 @@ some-outcome (accepted a) = (done.Accepted, refl)
 some-outcome (refused n) = (done.Refused n, refl)
 
 some-piece : (x : Answer Piece) → (r : PieceRead) × (pieceAnswer r ≡ x)
-some-piece (accepted a) = (piece.Accepted a, refl)
-some-piece (refused n) = (piece.Refused n, refl)
+some-piece (accepted a) = (framed.Accepted a, refl)
+some-piece (refused n) = (framed.Refused n, refl)
 
 some-entry : (x : Answer Entry) → (r : EntryRead) × (entryAnswer r ≡ x)
 some-entry (accepted a) = (entry.Accepted a, refl)
@@ -137,6 +152,18 @@ some-saved (refused n) = (saved.Refused n, refl)
 some-record : (x : Answer Recorded) → (r : RecordRead) × (recordAnswer r ≡ x)
 some-record (accepted a) = (recorded.Accepted a, refl)
 some-record (refused n) = (recorded.Refused n, refl)
+
+some-address : (x : Answer Address) → (r : AddressRead) × (addressAnswer r ≡ x)
+some-address (accepted a) = (address.Accepted a, refl)
+some-address (refused n) = (address.Refused n, refl)
+
+some-head : (x : Answer Head) → (r : HeadRead) × (headAnswer r ≡ x)
+some-head (accepted a) = (head.Accepted a, refl)
+some-head (refused n) = (head.Refused n, refl)
+
+some-header : (x : Answer Header) → (r : HeaderRead) × (headerAnswer r ≡ x)
+some-header (accepted a) = (header.Accepted a, refl)
+some-header (refused n) = (header.Refused n, refl)
 
 -- a map and a buffer that a refusal leaves
 both-kept : {A : Type 0} (answer : Answer A) (f g : A → List ℕ) (lent left : Lent) (n : ℕ) → answer ≡ refused n
@@ -186,6 +213,19 @@ done-in-order {A} checks value answer order = record {
     accepts (accepted a) is e = order .accepts-only-if a is .0
     accepts (refused m) {u} is e = absurd (not-both u m e refl)
 
+-- .. and what it leaves
+wrote : (checks : List Check) (value target : List ℕ) (made : Answer (List ℕ)) → inTable checks ≡ true → Exactly checks value made
+    → Answers checks (tt {0}) outcome target (Wrote target made)
+wrote checks value target made table order =
+    let some = some-outcome (telling (λ left. tt {0}) made) in
+    by-order checks (tt {0}) outcome target (Wrote target made) (telling (λ left. tt {0}) made) table (done-in-order checks value made order)
+    (λ r left p. p .answer) (λ r left p n e. p .bytes ∙ kept made n e)
+    (some .0, (leaving (λ left. left) target made, record { answer = some .1; bytes = refl }))
+  where
+    kept : (x : Answer (List ℕ)) (n : ℕ) → telling (λ left. tt {0}) x ≡ refused n → leaving (λ left. left) target x ≡ target
+    kept (accepted a) n e = absurd (not-both (tt {0}) n refl e)
+    kept (refused m) n e = refl
+
 -- an operation that only reads
 reads : {R A : Type 0} (checks : List Check) (value : A) (means : R → Answer A) (answer : Answer A) → inTable checks ≡ true
     → Exactly checks value answer → (r : R) × (means r ≡ answer) → Answers checks value means nothing (λ r left. means r ≡ answer)
@@ -201,6 +241,7 @@ demand-1 = record {
   reads-entry = λ frame. reads _ _ _ (readEntry frame) refl (read-entry-in-order frame) (some-entry (readEntry frame));
   reads-request = λ frame. reads _ _ _ (readRequest frame) refl (read-request-in-order frame) (some-request (readRequest frame));
   takes = λ number l lent frame. let s = receptionIn number l lent in adds number l lent _ _ _ (takingFrame s frame) refl (take-in-order s frame);
+  takes-piece = λ number l lent x. let s = receptionIn number l lent in adds number l lent _ _ _ (taking s x) refl (piece.take-in-order s x);
   opens = λ l lent. let answer = opening l (lent .map) (lent .buffer) in
       by-order _ _ outcome lent _ answer refl (open-in-order l (lent .map) (lent .buffer)) (λ r left p. p .answers)
       (λ r left p n e. both-kept answer _ _ lent left n e (p .leaves-map) (p .leaves-buffer)) (
@@ -216,11 +257,7 @@ demand-1 = record {
   joins = λ number l lent t. let s = receptionIn number l lent in adds number l lent _ _ _ (joining s t) refl (join-in-order s t);
   lists = λ l map place. reads _ _ _ (listing l map place) refl (list-in-order l map place) (some-listed (listing l map place));
   fills = λ w place target. writes _ _ filledAnswer target (filling w place target) _ refl (write-fill-in-order w place target) (some-filled (filling w place target));
-  starts = λ head number target. let made = starting head number target in
-      by-order _ _ outcome target _ (telling (λ left. tt {0}) made) refl (done-in-order _ _ made (write-start-in-order head number target))
-      (λ r left p. p .answer) (λ r left p n e. p .bytes ∙ kept target made n e)
-      (let some = some-outcome (telling (λ left. tt {0}) made) in
-      (some .0, (leaving (λ left. left) target made, record { answer = some .1; bytes = refl })));
+  starts = λ head number target. wrote _ _ target (starting head number target) refl (write-start-in-order head number target);
   saves = λ s target. writes _ _ savedAnswer target (saving s target) _ refl (save-in-order s target) (some-saved (saving s target));
   reads-record = λ saved. reads _ _ _ (readRecord saved) refl (read-record-in-order saved) (some-record (readRecord saved));
   loads = λ saved lent. let answer = loading saved (lent .map) (lent .buffer) in
@@ -235,9 +272,10 @@ demand-1 = record {
           record { answers = some-record answer .1; leaves-map = refl; leaves-buffer = refl },
         ),
       );
+  reads-address = λ role s at. reads _ _ _ (readAddress role s at) refl (read-address-in-order role s at) (some-address (readAddress role s at));
+  writes-address = λ role out at a. wrote _ _ out (writeAddress role out at a) refl (write-address-in-order role out at a);
+  reads-head = λ protocol frame. reads _ _ _ (readHead protocol frame) refl (read-head-in-order protocol frame) (some-head (readHead protocol frame));
+  writes-head = λ out destination source protocol. wrote _ _ out (writeHead out destination source protocol) refl
+      (write-head-in-order out destination source protocol);
+  reads-header = λ s number. reads _ _ _ (readHeader s number) refl (read-header-in-order s number) (some-header (readHeader s number));
 }
-  where
-    kept : (target : List ℕ) (made : Answer (List ℕ)) (n : ℕ) → telling (λ left. tt {0}) made ≡ refused n
-        → leaving (λ left. left) target made ≡ target
-    kept target (accepted a) n e = absurd (not-both (tt {0}) n refl e)
-    kept target (refused m) n e = refl

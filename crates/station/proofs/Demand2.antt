@@ -2,30 +2,30 @@
 -- Assumes nothing.
 use mathlib.Core.Path.{_≡_, sym, ap, _∙_}
 use mathlib.Core.List.{List, _++_}
-use Prim.Native.Nat.{ℕ, _≤_}
+use Prim.Native.Nat.{ℕ}
 use native.Mathlib.Omega.{arith}
 use native.Mathlib.Nat.{zero-add}
-use lib.ListN.{length, drop, replicate, length-replicate}
+use lib.ListN.{length, drop}
 use Rattle.reason.specs.Answer.{accepted}
 use Rattle.octets.specs.Runs.{putIn}
 use Rattle.frame.specs.declared.Piece.{Piece}
 use Rattle.frame.specs.declared.Entry.{Entry}
 use Rattle.frame.specs.Piece.{readPiece}
 use Rattle.frame.specs.Entry.{readEntry}
-use Rattle.frame.proofs.Says.{piece-says, entry-says, eight-says, not-piece-and-entry}
+use Rattle.frame.proofs.Says.{piece-says, entry-says, entry-is-read, accepted-entry-keeps, eight-says, not-piece-and-entry}
 use Rattle.frame.proofs.RoundTrip as piece
 use Rattle.reception.proofs.HoleLaws.{hole-is, hole-first, none-only-if}
 use Rattle.request.specs.declared.Asks.{Asks}
 use Rattle.request.specs.declared.Asks.the-variants.{Start, Holes}
 use Rattle.request.specs.declared.Request.{Request}
-use Rattle.request.specs.Request.{mostHoles, flagsOf, frameLength}
+use Rattle.request.specs.Request.{flagsOf}
 use Rattle.request.specs.Reading.{readRequest}
 use Rattle.request.proofs.Says.{request-says}
 use Rattle.request.proofs.RoundTrip as request
 use Rattle.request.proofs.SentLaws.{written-fill-is-read, written-holes-are-read, written-start-is-read}
 use Rattle.request.proofs.WholeRun.{whole-run}
 use Rattle.request.proofs.Naming.{names-only-unheld, unheld-is-named-once, held-is-never-named}
-use Rattle.request.proofs.WrittenAgain.{accepted-start-is-written, accepted-list-is-written}
+use Rattle.request.proofs.WrittenAgain.{accepted-start-is-written, accepted-list-is-made, accepted-list-is-written}
 use Rattle.ax25.proofs.RoundTrip.{written-address-is-read, read-address-is-written}
 use Rattle.record.proofs.Says.{record-says}
 use Rattle.record.proofs.RoundTrip as saved
@@ -48,21 +48,16 @@ fills-the-first-bytes : (target run : List ℕ) → putIn target 0 run ≡ run +
 unfolding putIn
 fills-the-first-bytes target run = ap (λ (n : ℕ). run ++ drop n target) (zero-add (length run))
 
--- a target of the longest request
-abbrev target : List ℕ
-target = replicate (frameLength mostHoles) 0
-
-enough : frameLength mostHoles ≤ length target
-enough = omega (arith, length-replicate {A = ℕ} (frameLength mostHoles) 0)
-
 pub demand-2 : Demand2
 demand-2 = record {
   address-is-read = written-address-is-read;
   address-is-written = read-address-is-written;
   piece-says = piece-says;
   piece-is-read = λ p bytes m. (piece.made-piece-is-read p bytes m, piece.made-piece-is-handed-out p bytes m);
-  piece-is-made = piece.accepted-piece-is-made;
+  piece-is-made = λ frame p bytes read. (piece.accepted-piece-is-made frame p bytes read, piece.accepted-piece-can-be-made frame p bytes read);
   entry-says = entry-says;
+  entry-is-read = entry-is-read;
+  entry-keeps = accepted-entry-keeps;
   eight-says = eight-says;
   not-piece-and-entry = not-piece-and-entry;
   not-piece-and-request = not-piece-and-request;
@@ -77,7 +72,10 @@ demand-2 = record {
   fill-is-read = λ w place t x written number.
       (written-fill-is-read w place t x written number, written-holes-are-read w place t x written number);
   start-is-read = written-start-is-read;
-  fill-is-written = λ frame r bytes read asks. accepted-list-is-written frame bytes r read target asks enough .1;
+  fill-is-written = λ frame r bytes read asks. (
+    accepted-list-is-made frame bytes r read asks,
+    λ t room. accepted-list-is-written frame bytes r read asks t room,
+  );
   start-is-written = λ frame r bytes read asks t room. accepted-start-is-written frame bytes r read t asks room;
   fills-the-first-bytes = fills-the-first-bytes;
   whole-run = λ w t can. whole-run w t (can .addresses) (can .numbered) (can .room) (can .right) (can .mapped);

@@ -12,7 +12,7 @@ use Rattle.reception.specs.Sequences as pieces
 use Rattle.reception.specs.Stations as stations
 use Rattle.station.specs.Taking.{pieceIn, takingFrame, takenFrame}
 use Rattle.station.specs.Sequences.{takenFrames, inPiece, coveredIn, fitsFile, covered, AllAgree}
-use Rattle.station.specs.Stations.{Station, receptionOf, Made, station, together}
+use Rattle.station.specs.Stations.{Station, receptionOf}
 use Rattle.station.proofs.TakingLaws.{frame-refused, frame-accepted, frame-leaves, frame-taken}
 
 -- the pieces among frames: of those that are read as pieces
@@ -89,10 +89,6 @@ module _ (number l : ℕ) where
 
     pub holds-by-pieces : (a : Station number l file) → receptionOf a ≡ stations.receptionOf (over-pieces a)
     holds-by-pieces a = taken-by-pieces _ (a .frames)
-
-    pub made-by-pieces : (s : Reception) → Made number l file s → stations.Made number l file s
-    made-by-pieces s (station a) = let e = holds-by-pieces a in rw e (stations.station (over-pieces a))
-    made-by-pieces u (together s t m n) = stations.together s t (made-by-pieces s m) (made-by-pieces t n)
 
 -- one sequence after the other
 pub pieces-both : (xs ys : List (List ℕ)) → piecesIn (xs ++ ys) ≡ piecesIn xs ++ piecesIn ys

@@ -6,6 +6,9 @@ pub mod AddressLaws
 pub mod ExportLaws
 pub mod EntryExportLaws
 pub mod FramesLaws
+pub mod StationLaws
+pub mod MadeLaws
+pub mod CallLaws
 pub mod OnlyOne
 pub mod Orders
 pub mod Demand1

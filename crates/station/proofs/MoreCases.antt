@@ -1,7 +1,7 @@
 -- The further cases hold, most of them by computation.
 -- Assumes nothing.
 use mathlib.Core.Path.{_≡_, refl}
-use mathlib.Core.Bool.{false≢true}
+use mathlib.Core.Bool.{true, false, false≢true}
 use mathlib.Core.List.{List, [], _∷_, _++_}
 use mathlib.Core.Logic.{inl, inr}
 use Prim.Native.Nat.{ℕ, zero, suc}
@@ -13,6 +13,7 @@ use Rattle.reason.specs.Order.{firstOf}
 use Rattle.octets.specs.Runs.{putIn}
 use Rattle.remainder.specs.Remainder.{withBit, withBits, messageBits, remainderOf}
 use Rattle.remainder.specs.Check.{checkRight}
+use Rattle.remainder.specs.Figure.{figure32}
 use Rattle.positions.specs.Spans.{every, count, first}
 use Rattle.positions.specs.Map.{bit, held, bitsFrom, mapOf}
 use Rattle.ax25.specs.Address.{isName, isWritable, addressAt, wellFormed}
@@ -43,10 +44,13 @@ front-agrees (suc (suc zero)) h = refl
 front-agrees (suc (suc (suc zero))) h = refl
 front-agrees (suc (suc (suc (suc i)))) h = absurd (omega (arith, h))
 
+unfit : {A : Type 0} → false ≡ true → A
+unfit e = absurd (false≢true e)
+
 heard-agree : AllAgree 7 20 file heard
-unfolding firstOf putIn withBit withBits messageBits remainderOf checkRight isName isWritable addressAt wellFormed headChecks headOf headBytes pieceChecks pieceFields readPiece
+unfolding firstOf putIn withBit withBits messageBits remainderOf checkRight figure32 isName isWritable addressAt wellFormed headChecks headOf headBytes pieceChecks pieceFields readPiece
 heard-agree =
-    (λ _. front-agrees, (λ fit. absurd (false≢true fit), (λ fit. absurd (false≢true fit), (λ fit. absurd (false≢true fit), (λ _. front-agrees, tt)))))
+    (λ _. front-agrees, (unfit, (unfit, (unfit, (unfit, (unfit, (λ _. front-agrees, tt)))))))
 
 opens-twenty : opening 20 (replicate 3 0xFF) (replicate 20 0xFF) ≡ accepted tt
 unfolding firstOf opening
@@ -61,7 +65,7 @@ among-any frame [] behind = inl refl
 among-any frame (f ∷ before) behind = inr (among-any frame before behind)
 
 pub more-cases : MoreCases
-unfolding firstOf putIn withBit withBits messageBits remainderOf checkRight isName isWritable addressAt wellFormed headChecks headOf headBytes pieceChecks pieceFields readPiece every count first bit held bitsFrom mapOf opening listing takingFrame
+unfolding firstOf putIn withBit withBits messageBits remainderOf checkRight figure32 isName isWritable addressAt wellFormed headChecks headOf headBytes pieceChecks pieceFields readPiece every count first bit held bitsFrom mapOf opening listing takingFrame
 more-cases = record {
   a-station = (example, (refl, refl));
   among-any = among-any;

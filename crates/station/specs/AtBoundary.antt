@@ -5,25 +5,27 @@ use mathlib.Core.Path.{_≡_}
 use mathlib.Core.Bool.{true, false}
 use mathlib.Core.List.{List}
 use Prim.Native.Nat.{ℕ, suc, _^_, _≤_}
+use lib.ListN.{take, drop}
 use Rattle.reason.specs.Order.{Check, First, NoneHolds}
 use Rattle.ax25.specs.declared.Address.{Address}
 use Rattle.ax25.specs.declared.Head.{Head}
 use Rattle.ax25.specs.Address.{isWritable}
 use Rattle.header.specs.Header.{headerChecks}
-use Rattle.frame.specs.Piece.{pieceOrder}
-use Rattle.frame.specs.Entry.{entryOrder}
+use Rattle.frame.specs.Piece.{pieceOrder, pieceBytes}
+use Rattle.frame.specs.Entry.{entryOrder, headerBytes}
 use Rattle.reception.specs.declared.Hole.{Hole}
 use Rattle.reception.specs.Reception.{Reception}
-use Rattle.reception.specs.Opening.{openingChecks}
-use Rattle.reception.specs.Joining.{joiningChecks}
+use Rattle.reception.specs.Opening.{openingChecks, opened}
+use Rattle.reception.specs.Joining.{joiningChecks, joined}
 use Rattle.reception.specs.Listing.{listingChecks}
 use Rattle.request.specs.Reading.{requestOrder}
 use Rattle.request.specs.Writing.{Wanted, fillChecks, startChecks}
+use Rattle.record.specs.Record.{recordOf}
 use Rattle.record.specs.Saving.{savingChecks}
-use Rattle.record.specs.Loading.{loadingChecks}
+use Rattle.record.specs.Loading.{loadingChecks, loaded}
 use Rattle.station.specs.Taking.{frameChecks, takenFrame}
 use Rattle.station.specs.AddressNumber.{addressNumber, addressOf}
-use Rattle.station.specs.Lent.{Lent}
+use Rattle.station.specs.Lent.{Lent, receptionIn}
 use Rattle.station.specs.Demand1.{lastReason}
 use Rattle.station.specs.Exports as out
 use Rattle.station.specs.EntryExports as entry
@@ -32,6 +34,8 @@ use Rattle.station.specs.HeaderExports.{FileHeaderNumbers, FileHeaderOut
 -- One function, for one input: `checks` are the reasons of its operation in their order, and `promise r left` is its promise, r being
 -- what it returns and `left` what it leaves of what it was lent.
 pub record Returns {L : Type 0} (checks : List Check) (lent : L) (promise : ℕ → L → Type 0) : Type 0 where
+  -- every input gets an answer: there is one that meets the promise
+  pub met : (r : ℕ) × ((left : L) × promise r left)
   pub zero-if : (r : ℕ) (left : L) → promise r left → NoneHolds checks → r ≡ 0
   pub zero-only-if : (r : ℕ) (left : L) → promise r left → r ≡ 0 → NoneHolds checks
   pub reason-if : (r : ℕ) (left : L) → promise r left → (n : ℕ) → First n checks → r ≡ n
@@ -60,9 +64,22 @@ pub record AtBoundary : Type 0 where
   pub station-write-start : (head : Head) (number : ℕ) (lent : List ℕ) → Returns (startChecks head lent) lent (out.StartsOut head number lent)
   pub station-read-request : (frame : List ℕ) (lent : out.RequestNumbers) → Returns (requestOrder frame) lent (out.RequestOut frame lent)
   pub station-hole : (frame : List ℕ) (index : ℕ) (lent : Hole) → Returns (requestOrder frame) lent (out.HoleOut frame index lent)
-  -- `station_take` leaves the reception that `take` leaves
+  -- Demand 3 is about what these leave: `station_open` and `station_load` where they return 0, `station_take` and `station_join` whatever they
+  -- return; and the first bytes of the target of `station_save`, as many as it tells, are the record
+  pub opens-it : (number l : ℕ) (lent left : Lent) (r : ℕ) → out.OpensOut l lent r left → r ≡ 0
+      → receptionIn number l left ≡ opened number l (lent .map) (lent .buffer)
   pub takes-in : (number l : ℕ) (frame : List ℕ) (lent left : out.Counted) (r : ℕ) → out.TakesOut number l frame lent r left
       → out.lentTo number l left ≡ takenFrame (out.lentTo number l lent) frame
+  pub joins-in : (number l : ℕ) (t : Reception) (lent left : out.Counted) (r : ℕ) → out.JoinsOut number l t lent r left
+      → out.lentTo number l left ≡ joined (out.lentTo number l lent) t
+  pub saves-it : (s : Reception) (lent left : out.Sized) (r : ℕ) → out.SavesOut s lent r left → r ≡ 0 → take (left .size) (left .target) ≡ recordOf s
+  pub loads-it : (saved : List ℕ) (lent left : Reception) (r : ℕ) → out.LoadsOut saved lent r left → r ≡ 0
+      → left ≡ loaded saved (lent .map) (lent .buffer)
+  -- where the bytes of a piece and the header of an entry are told to stand, there they stand: what `piece_bytes` and `header_bytes` hand out
+  pub piece-stands-there : (frame : List ℕ) (lent left : out.PieceNumbers) (r : ℕ) → out.PieceOut frame lent r left → r ≡ 0
+      → take (left .size) (drop (left .start) frame) ≡ pieceBytes frame
+  pub header-stands-there : (frame : List ℕ) (lent left : entry.EntryNumbers) (r : ℕ) → entry.EntryOut frame lent r left → r ≡ 0
+      → take (left .size) (drop (left .start) frame) ≡ headerBytes frame
   -- an address that can be written is told back by its number; a number of more than seven bytes tells none
   pub address-told-back : (a : Address) → isWritable a ≡ true → addressOf (addressNumber a) ≡ a
   pub too-large-a-number : (n : ℕ) → 256 ^ 7 ≤ n → isWritable (addressOf n) ≡ false

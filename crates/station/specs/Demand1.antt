@@ -10,12 +10,18 @@ use Prim.Native.Nat.{ℕ, _≤_}
 use lib.ListN.{length}
 use Rattle.reason.specs.Answer.{Answer, accepted, refused, outcome, Wrote}
 use Rattle.reason.specs.Order.{Check, check, First, NoneHolds}
+use Rattle.ax25.specs.declared.Address.{Address}
+use Rattle.ax25.specs.declared.Role.{Role}
 use Rattle.ax25.specs.declared.Head.{Head}
+use Rattle.ax25.specs.Address.{addressAt, addressReadChecks, readAddress, addressAnswer, addressWriteChecks, writeAddress}
+use Rattle.ax25.specs.Head.{headChecks, headOf, readHead, headAnswer, headWriteChecks, writeHead}
+use Rattle.header.specs.Header.{headerChecks, headerOf, readHeader, headerAnswer}
 use Rattle.frame.specs.Piece.{pieceOrder, pieceOf, readPiece, pieceAnswer}
 use Rattle.frame.specs.Entry.{entryOrder, entryOf, readEntry, entryAnswer}
-use Rattle.reception.specs.Reception.{Reception}
+use Rattle.reception.specs.Reception.{Reception, Piece}
 use Rattle.reception.specs.Adding.{ofPiece, ofReception, newIn, addedAnswer}
 use Rattle.reception.specs.Opening.{openingChecks, Opens}
+use Rattle.reception.specs.Taking.{takingChecks, Takes}
 use Rattle.reception.specs.Joining.{joiningChecks, Joins}
 use Rattle.reception.specs.Holes.{holeFrom}
 use Rattle.reception.specs.Listing.{listingChecks, listing, listedAnswer}
@@ -55,7 +61,7 @@ pub record Answers {R A L : Type 0} (checks : List Check) (value : A) (means : R
 abbrev pub nothing : Unit {0}
 nothing = tt {0}
 
--- Every operation of "Numbered reasons", with 01's words for its order.
+-- Every operation of "Numbered reasons", with 01's words for its order, and the operations that they are made of.
 pub record Demand1 : Type 0 where
   -- "Order in a frame: 1 (below 16), 2, 3, 4, 7 (over 255), 1 (information), 6, 5, 14, 7 (no data), 8": a piece, and an entry
   pub reads-piece : (frame : List ℕ) → Answers (pieceOrder frame) (pieceOf frame) pieceAnswer nothing (λ r left. pieceAnswer r ≡ readPiece frame)
@@ -67,6 +73,9 @@ pub record Demand1 : Type 0 where
   pub takes : (number l : ℕ) (lent : Lent) (frame : List ℕ) → let s = receptionIn number l lent in
       Answers (frameChecks s frame) (newIn s (ofPiece (pieceIn frame))) addedAnswer lent
       (λ r left. TakesFrame s frame r (left .map) (left .buffer))
+  -- .. and of a piece that was read before: 7 (L), 12, 9, 10, 11
+  pub takes-piece : (number l : ℕ) (lent : Lent) (x : Piece) → let s = receptionIn number l lent in
+      Answers (takingChecks s x) (newIn s (ofPiece x)) addedAnswer lent (λ r left. Takes s x r (left .map) (left .buffer))
   -- "Opening: 7, 12"
   pub opens : (l : ℕ) (lent : Lent)
       → Answers (openingChecks l (lent .map) (lent .buffer)) tt outcome lent
@@ -93,3 +102,15 @@ pub record Demand1 : Type 0 where
   pub loads : (saved : List ℕ) (lent : Lent)
       → Answers (loadingChecks saved (lent .map) (lent .buffer)) (recordedIn saved) recordAnswer lent
       (λ r left. Loads saved (lent .map) (lent .buffer) r (left .map) (left .buffer))
+  -- An address alone: 2 where it is read, 2 and 12 where it is written. A head alone: the first five of "Order in a frame" where it is
+  -- read, 2 (either address) and 12 where it is written. A file header alone: 8.
+  pub reads-address : (role : Role) (s : List ℕ) (at : ℕ)
+      → Answers (addressReadChecks role s at) (addressAt s at) addressAnswer nothing (λ r left. addressAnswer r ≡ readAddress role s at)
+  pub writes-address : (role : Role) (out : List ℕ) (at : ℕ) (a : Address)
+      → Answers (addressWriteChecks role out at a) tt outcome out (Wrote out (writeAddress role out at a))
+  pub reads-head : (protocol : ℕ) (frame : List ℕ)
+      → Answers (headChecks protocol frame) (headOf frame) headAnswer nothing (λ r left. headAnswer r ≡ readHead protocol frame)
+  pub writes-head : (out : List ℕ) (destination source : Address) (protocol : ℕ)
+      → Answers (headWriteChecks out destination source) tt outcome out (Wrote out (writeHead out destination source protocol))
+  pub reads-header : (s : List ℕ) (number : ℕ)
+      → Answers (headerChecks s number) (headerOf s) headerAnswer nothing (λ r left. headerAnswer r ≡ readHeader s number)

@@ -21,18 +21,19 @@ use Rattle.header.specs.Rules.{Rules}
 use Rattle.frame.specs.declared.Piece.{Piece}
 use Rattle.frame.specs.declared.Entry.{Entry}
 use Rattle.frame.specs.Piece.{readPiece, pieceBytes}
-use Rattle.frame.specs.Entry.{headerPart, readEntry}
+use Rattle.frame.specs.Entry.{headerPart, entryOf, readEntry}
 use Rattle.frame.specs.Made as pieces
-use Rattle.frame.specs.Says.{PieceSays, EntrySays}
+use Rattle.frame.specs.Says.{PieceSays, EntrySays, EntryRules}
 use Rattle.reception.specs.declared.Hole.{Hole}
 use Rattle.reception.specs.Reception.{Reception, longest, wrongLength, shortSpace}
 use Rattle.reception.specs.Holes.{IsHole}
 use Rattle.reception.specs.Listing.{listing}
+use Rattle.reception.specs.EveryHole.{lastEnd}
 use Rattle.request.specs.declared.Asks.{Asks}
 use Rattle.request.specs.declared.Asks.the-variants.{Start, Holes}
 use Rattle.request.specs.declared.Request.{Request}
 use Rattle.request.specs.declared.Written.{Written}
-use Rattle.request.specs.Request.{mostHoles, frameLength, requestFrame}
+use Rattle.request.specs.Request.{frameLength, requestFrame}
 use Rattle.request.specs.Reading.{readRequest, noHole, holeAt, holesOf}
 use Rattle.request.specs.Writing.{Wanted, holesFrom, filling, fillFrame, starting}
 use Rattle.request.specs.Made.{Makeable}
@@ -46,12 +47,12 @@ use Rattle.record.specs.Says.{RecordSays}
 use Rattle.record.specs.Loading.{loading, loaded}
 use Rattle.record.specs.GivenBack.{GivesBack}
 
--- a station that can send requests: both addresses can be written, the file's number has four bytes, the target has room for the
--- longest request (a shorter one may be refused 12), the length is in range and the map long enough
+-- a station that can send requests: both addresses can be written, the file's number has four bytes, the target has room for the frame of
+-- its first request (no other of the run is longer), the length is in range and the map long enough
 pub record CanSend (w : Wanted) (target : List ℕ) : Type 0 where
   pub addresses : (isWritable (w .head .destination) && isWritable (w .head .source)) ≡ true
   pub numbered : w .number < 256 ^ 4
-  pub room : frameLength mostHoles ≤ length target
+  pub room : frameLength (length (holesFrom w 0)) ≤ length target
   pub right : wrongLength (w .length) ≡ false
   pub mapped : mapSize (w .length) ≤ length (w .map)
 
@@ -62,14 +63,18 @@ pub record Demand2 : Type 0 where
   pub address-is-written : (role : Role) (s : List ℕ) (at : ℕ) (a : Address) → readAddress role s at ≡ accepted a
       → (take 7 (drop at s) ≡ addressBytes role a) × (writeAddress role s at a ≡ accepted s)
   -- ---- Pieces: an accepted frame says its bytes at their places; a piece as a satellite makes it is read as that piece, and the bytes
-  -- handed out are its own; and every accepted frame is the one that its fields and bytes make, so that it has one meaning.
+  -- handed out are its own; and every accepted frame is the one that its fields and bytes make, so that it has one meaning, and these can
+  -- be made: the accepted frames are exactly those that a satellite makes.
   pub piece-says : (frame : List ℕ) (p : Piece) → readPiece frame ≡ accepted p → PieceSays frame p
   pub piece-is-read : (p : Piece) (bytes : List ℕ) → pieces.Makeable p bytes
       → (readPiece (pieces.pieceFrame p bytes) ≡ accepted p) × (pieceBytes (pieces.pieceFrame p bytes) ≡ bytes)
-  pub piece-is-made : (frame : List ℕ) (p : Piece) → AllBytes frame → readPiece frame ≡ accepted p → pieces.pieceFrame p (pieceBytes frame) ≡ frame
+  pub piece-is-made : (frame : List ℕ) (p : Piece) → AllBytes frame → readPiece frame ≡ accepted p
+      → (pieces.pieceFrame p (pieceBytes frame) ≡ frame) × pieces.Makeable p (pieceBytes frame)
   -- ---- Directory entries: both addresses, all fields, and the value of each mandatory item and of item 12.
-  -- Reason 8 says that the header breaks a rule, or that something follows it.
+  -- An entry is accepted exactly if it keeps every rule; reason 8 says that the header breaks one, or that something follows it.
   pub entry-says : (frame : List ℕ) (e : Entry) → readEntry frame ≡ accepted e → EntrySays frame e
+  pub entry-is-read : (frame : List ℕ) → EntryRules frame → readEntry frame ≡ accepted (entryOf frame)
+  pub entry-keeps : (frame : List ℕ) (e : Entry) → readEntry frame ≡ accepted e → EntryRules frame
   pub eight-says : (frame : List ℕ) → readEntry frame ≡ refused 8
       → Rules (headerPart (informationOf frame)) (numberAt 4 (informationOf frame) 1)
       → headerLength (headerPart (informationOf frame)) ≡ length (headerPart (informationOf frame)) → ⊥
@@ -97,7 +102,9 @@ pub record Demand2 : Type 0 where
   pub start-is-read : (head : Head) (number : ℕ) (target left : List ℕ) → starting head number target ≡ accepted left → number < 256 ^ 4
       → readRequest (take (frameLength 0) left) ≡ accepted (record { head = head; asks = Start; number = number; count = 0 })
   pub fill-is-written : (frame : List ℕ) (r : Request) → AllBytes frame → readRequest frame ≡ accepted r → r .asks ≡ Holes
-      → fillFrame (record { head = r .head; number = r .number; length = longest; map = allBut (holesOf frame) }) 0 ≡ frame
+      → let w : Wanted = record { head = r .head; number = r .number; length = longest; map = allBut (holesOf frame) } in
+      (fillFrame w 0 ≡ frame) × ((target : List ℕ) → frameLength (length (holesOf frame)) ≤ length target
+      → filling w 0 target ≡ accepted (record { count = length (holesOf frame); end = lastEnd 0 (holesOf frame) }))
   pub start-is-written : (frame : List ℕ) (r : Request) → AllBytes frame → readRequest frame ≡ accepted r → r .asks ≡ Start
       → (target : List ℕ) → frameLength 0 ≤ length target → starting (r .head) (r .number) target ≡ accepted (putIn target 0 frame)
   -- "A written request or record fills the first bytes of the target; the bytes after it stay": what the promises call `putIn target 0`.

@@ -1,10 +1,10 @@
 -- The customer's third demand, in its words, over frames: what stations that collect one file hold, what joining gives, and
--- what the listed holes are. It speaks of the definitions that the promises of `open`, `take`, `join` and `list` cite.
+-- what the listed holes are. It speaks of the definitions that the promises of `open`, `take`, `join`, `list`, `save` and `load` cite.
 -- Assumes nothing.
 use mathlib.Core.Path.{_≡_}
 use mathlib.Core.Bool.{true, false, not, _&&_, _||_}
 use mathlib.Core.List.{List, _++_}
-use Prim.Native.Nat.{ℕ, _≤_, _<_}
+use Prim.Native.Nat.{ℕ, _^_, _≤_, _<_}
 use lib.ListN.{length, take, drop}
 use Rattle.reason.specs.Answer.{accepted, refused}
 use Rattle.reason.specs.declared.Outcome.{Outcome}
@@ -13,7 +13,7 @@ use Rattle.positions.specs.Spans.{count}
 use Rattle.positions.specs.Map.{held, mapSize}
 use Rattle.reception.specs.declared.Added.{Added}
 use Rattle.reception.specs.declared.Hole.{Hole}
-use Rattle.reception.specs.Reception.{Reception}
+use Rattle.reception.specs.Reception.{Reception, shortSpace}
 use Rattle.reception.specs.Opening.{opening, opened, Opens}
 use Rattle.reception.specs.Joining.{joining, joined, Joins}
 use Rattle.reception.specs.Sequences.{AgreesWith}
@@ -21,21 +21,39 @@ use Rattle.reception.specs.Holes.{IsHole}
 use Rattle.reception.specs.Listing.{listing}
 use Rattle.reception.specs.EveryHole.{listedFrom, AllHoles, InHole}
 use Rattle.reception.specs.Contents.{HoldsOf, itself, beyond}
+use Rattle.record.specs.declared.Saved.{Saved}
+use Rattle.record.specs.declared.RecordRead.{RecordRead}
+use Rattle.record.specs.Record.{recordOf, recordLength}
+use Rattle.record.specs.Saving.{savedAnswer, Saves}
+use Rattle.record.specs.Reading.{recordAnswer}
+use Rattle.record.specs.Loading.{loaded, Loads}
 use Rattle.station.specs.Lent.{Lent, receptionIn}
-use Rattle.station.specs.Taking.{pieceIn, takingFrame, takenFrame}
-use Rattle.station.specs.Sequences.{takenFrames, coveredIn, fitsFile, covered, Among}
+use Rattle.station.specs.Taking.{pieceIn, takingFrame, takenFrame, TakesFrame}
+use Rattle.station.specs.Sequences.{takenFrames, inPiece, coveredIn, fitsFile, covered, Among}
 use Rattle.station.specs.Stations.{Station, fresh, receptionOf, Made}
 use Rattle.station.specs.Calls.{Calls}
 
 -- For a file with a number and a length that can be opened. A `Station` has lent space of any sufficient length, and takes in any
 -- sequence of frames of which every piece that fits number and length agrees with the file.
 pub record Demand3 (number l : ℕ) (file : List ℕ) : Type 0 where
-  -- What is said below of `receptionOf` and `joined` holds of the functions: any calls of `open`, of `take` for each frame, and of `join`
-  -- leave just that, by their promises.
-  pub by-calls : (a : Station number l file) (r : Outcome) (opens last : Lent) → Opens l (a .map) (a .buffer) r (opens .map) (opens .buffer)
-      → Calls number l opens (a .frames) last → receptionIn number l last ≡ receptionOf a
+  -- What is said below of `opened`, `takenFrame`, `joined`, `recordOf` and `loaded` holds of the functions: any calls of `open`, `take`,
+  -- `join`, `save` and `load` leave just that, by their promises; and calls of `open` and of `take` for each frame, one after the other,
+  -- leave a station's `receptionOf`. A reception that is made is saved into any target with room, and its record is loaded into any map and
+  -- buffer that are long enough.
+  pub by-open : (lent left : Lent) (r : Outcome) → opening l (lent .map) (lent .buffer) ≡ accepted tt
+      → Opens l (lent .map) (lent .buffer) r (left .map) (left .buffer) → receptionIn number l left ≡ opened number l (lent .map) (lent .buffer)
+  pub by-take : (s : Reception) (frame : List ℕ) (r : Added) (left : Lent) → TakesFrame s frame r (left .map) (left .buffer)
+      → receptionIn (s .number) (s .length) left ≡ takenFrame s frame
   pub by-join : (s t : Reception) (r : Added) (left : Lent) → Joins s t r (left .map) (left .buffer)
       → receptionIn (s .number) (s .length) left ≡ joined s t
+  pub by-save : (s : Reception) → Made number l file s → (target left : List ℕ) (r : Saved) → recordLength l ≤ length target → Saves s target r left
+      → (savedAnswer r ≡ accepted (recordLength l)) × (take (recordLength l) left ≡ recordOf s)
+  pub by-load : (s : Reception) → Made number l file s → number < 256 ^ 4 → (lent left : Lent) (r : RecordRead) → AllBytes (lent .map)
+      → shortSpace l (lent .map) (lent .buffer) ≡ false → Loads (recordOf s) (lent .map) (lent .buffer) r (left .map) (left .buffer)
+      → (recordAnswer r ≡ accepted (record { number = number; length = l }))
+      × (receptionIn number l left ≡ loaded (recordOf s) (lent .map) (lent .buffer))
+  pub by-calls : (a : Station number l file) (r : Outcome) (opens last : Lent) → Opens l (a .map) (a .buffer) r (opens .map) (opens .buffer)
+      → Calls number l opens (a .frames) last → receptionIn number l last ≡ receptionOf a
   -- "A position is then held exactly if an accepted piece covered it, held bytes are the file's, the others are zero." So are the
   -- spare bits of the map.
   pub held-exactly : (a : Station number l file) → HoldsOf number l file (coveredIn (fresh a) (a .frames)) (receptionOf a)
@@ -44,13 +62,6 @@ pub record Demand3 (number l : ℕ) (file : List ℕ) : Type 0 where
   pub accepted-are-fitting : (a : Station number l file) (p : ℕ) → coveredIn (fresh a) (a .frames) p ≡ covered number l (a .frames) p
   pub same-coverage : (a b : Station number l file) → ((p : ℕ) → covered number l (a .frames) p ≡ covered number l (b .frames) p)
       → itself (receptionOf a) ≡ itself (receptionOf b)
-  -- A frame that fits and agrees is accepted, and the count is that of its positions that no frame had covered; any other frame is
-  -- refused, and changes nothing.
-  pub fitting-is-taken : (a : Station number l file) (frame : List ℕ) → fitsFile number l frame ≡ true → AgreesWith file (pieceIn frame)
-      → takingFrame (receptionOf a) frame ≡ accepted
-      (count (λ p. not (covered number l (a .frames) p)) (pieceIn frame .offset) (length (pieceIn frame .bytes)))
-  pub other-is-refused : (a : Station number l file) (frame : List ℕ) → fitsFile number l frame ≡ false
-      → ((n : ℕ) × (takingFrame (receptionOf a) frame ≡ refused n)) × (takenFrame (receptionOf a) frame ≡ receptionOf a)
   -- A repeated piece does not spoil the file: a frame that was taken in before counts 0 and changes nothing.
   pub repeat-counts-0 : (a : Station number l file) (frame : List ℕ) → Among frame (a .frames) → fitsFile number l frame ≡ true
       → (takingFrame (receptionOf a) frame ≡ accepted 0) × (takenFrame (receptionOf a) frame ≡ receptionOf a)
@@ -65,10 +76,32 @@ pub record Demand3 (number l : ℕ) (file : List ℕ) : Type 0 where
   pub join-is-any-station : (a b c : Station number l file)
       → ((p : ℕ) → covered number l (c .frames) p ≡ (covered number l (a .frames) p || covered number l (b .frames) p))
       → itself (joined (receptionOf a) (receptionOf b)) ≡ itself (receptionOf c)
-  -- Every reception made in this way, by joining too, holds what some frames cover.
-  pub made-holds : (s : Reception) → Made number l file s → (frames : List (List ℕ)) × HoldsOf number l file (covered number l frames) s
+  -- Every reception that is `Made`, by opening, taking frames in, joining, saving and loading in any order, is what one station would hold,
+  -- in all that was lent; a station's is among them. So it holds what some frames cover.
+  pub made-is-a-station : (s : Reception) → Made number l file s → (a : Station number l file) × (receptionOf a ≡ s)
   pub stations-are-made : (a : Station number l file) → Made number l file (receptionOf a)
-  pub joins-are-made : (s t : Reception) → Made number l file s → Made number l file t → Made number l file (joined s t)
+  pub made-holds : (s : Reception) → Made number l file s → (frames : List (List ℕ)) × HoldsOf number l file (covered number l frames) s
+  -- A frame that fits and agrees is accepted, and the count is that of its positions that are not held yet: 0 if all are, and then nothing
+  -- changes. Any other frame is refused, and changes nothing.
+  pub fitting-is-taken : (s : Reception) → Made number l file s → (frame : List ℕ) → fitsFile number l frame ≡ true
+      → AgreesWith file (pieceIn frame)
+      → takingFrame s frame ≡ accepted (count (λ p. not (held (s .map) p)) (pieceIn frame .offset) (length (pieceIn frame .bytes)))
+  pub held-counts-0 : (s : Reception) → Made number l file s → (frame : List ℕ) → fitsFile number l frame ≡ true → AgreesWith file (pieceIn frame)
+      → ((p : ℕ) → inPiece frame p ≡ true → held (s .map) p ≡ true)
+      → (takingFrame s frame ≡ accepted 0) × (takenFrame s frame ≡ s)
+  pub other-is-refused : (s : Reception) → Made number l file s → (frame : List ℕ) → fitsFile number l frame ≡ false
+      → ((n : ℕ) × (takingFrame s frame ≡ refused n)) × (takenFrame s frame ≡ s)
+  -- What was saved and loaded is the same reception, map and buffer byte for byte, and joining goes on as it would have without.
+  pub itself-is-given-back : (s : Reception) → Made number l file s → number < 256 ^ 4 → (map buffer : List ℕ) → AllBytes map
+      → shortSpace l map buffer ≡ false → itself (loaded (recordOf s) map buffer) ≡ itself s
+  pub loaded-are-joined : (s t : Reception) → Made number l file s → Made number l file t → number < 256 ^ 4 → (map buffer : List ℕ) → AllBytes map
+      → shortSpace l map buffer ≡ false
+      → (joined s (loaded (recordOf t) map buffer) ≡ joined s t) × (itself (joined (loaded (recordOf s) map buffer) t) ≡ itself (joined s t))
+  -- Lent space beyond the file stays: of what takes a frame in, of what is joined into, and of what is loaded into.
+  pub beyond-taken : (s : Reception) → Made number l file s → (frame : List ℕ) → beyond (takenFrame s frame) ≡ beyond s
+  pub beyond-joined : (s t : Reception) → Made number l file s → beyond (joined s t) ≡ beyond s
+  pub beyond-loaded : (s : Reception) → Made number l file s → number < 256 ^ 4 → (map buffer : List ℕ) → AllBytes map → shortSpace l map buffer ≡ false
+      → beyond (loaded (recordOf s) map buffer) ≡ record { map = drop (mapSize l) map; buffer = drop l buffer }
   -- A join among receptions made in this way is never refused, and counts the positions that only the second holds.
   pub join-counts : (s t : Reception) → Made number l file s → Made number l file t
       → joining s t ≡ accepted (count (λ p. held (t .map) p && not (held (s .map) p)) 0 l)

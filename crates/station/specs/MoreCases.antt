@@ -4,7 +4,7 @@ use mathlib.Core.Path.{_≡_}
 use mathlib.Core.Bool.{false}
 use mathlib.Core.List.{List, [], _∷_, _++_}
 use Prim.Native.Nat.{ℕ}
-use lib.ListN.{set, replicate}
+use lib.ListN.{set, take, replicate}
 use Rattle.reason.specs.Answer.{accepted, refused}
 use Rattle.ax25.specs.Examples.{va3sfl, uosat5}
 use Rattle.frame.specs.Made.{pieceFrame}
@@ -13,9 +13,10 @@ use Rattle.station.specs.Taking.{takingFrame, takenFrame}
 use Rattle.station.specs.Sequences.{coveredIn, Among}
 use Rattle.station.specs.Stations.{Station, receptionOf}
 use Rattle.station.specs.Cases.{frameAt, twenty, longestFile, front}
+use Rattle.station.specs.BoundaryCases.{entryFrame}
 
 -- a file, and what a station hears of it: a piece, one of another file, one that ends beyond the file, one that was damaged on its
--- way, and the first again
+-- way, one of which only the first twenty bytes came, a directory entry, and the first again
 abbrev pub file : List ℕ
 file = 0x41 ∷ 0x42 ∷ 0x43 ∷ 0x44 ∷ replicate 16 0x45
 
@@ -23,7 +24,7 @@ abbrev pub ofAnother : List ℕ
 ofAnother = pieceFrame (record { head = record { destination = va3sfl; source = uosat5 11 }; number = 8; kind = 0; offset = 0 }) (0x00 ∷ [])
 
 abbrev pub heard : List (List ℕ)
-heard = front ∷ ofAnother ∷ frameAt 19 (0x00 ∷ 0x00 ∷ []) ∷ set front 25 0x00 ∷ front ∷ []
+heard = front ∷ ofAnother ∷ frameAt 19 (0x00 ∷ 0x00 ∷ []) ∷ set front 25 0x00 ∷ take 20 front ∷ entryFrame ∷ front ∷ []
 
 -- a piece that differs at 3, which `front` holds
 abbrev pub differing : List ℕ

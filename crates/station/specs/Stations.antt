@@ -1,14 +1,19 @@
--- Stations that collect one file from frames, and the receptions that they make (demand 3).
+-- Stations that collect one file from frames, and every reception of it that is made (demand 3).
 -- Assumes nothing.
 use mathlib.Core.Path.{_≡_}
+use mathlib.Core.Bool.{true, false}
 use mathlib.Core.List.{List}
-use Prim.Native.Nat.{ℕ}
+use Prim.Native.Nat.{ℕ, _^_, _<_}
 use Rattle.reason.specs.Answer.{accepted}
 use Rattle.octets.specs.Numbers.{AllBytes}
-use Rattle.reception.specs.Reception.{Reception}
+use Rattle.reception.specs.Reception.{Reception, shortSpace}
 use Rattle.reception.specs.Opening.{opening, opened}
 use Rattle.reception.specs.Joining.{joined}
-use Rattle.station.specs.Sequences.{takenFrames, AllAgree}
+use Rattle.reception.specs.Sequences.{AgreesWith}
+use Rattle.record.specs.Record.{recordOf}
+use Rattle.record.specs.Loading.{loaded}
+use Rattle.station.specs.Taking.{pieceIn, takenFrame}
+use Rattle.station.specs.Sequences.{takenFrames, fitsFile, AllAgree}
 
 -- A station: the map (a list of bytes) and the buffer that it was lent, of any length in which the file opens, and the frames that it
 -- takes in, of which every piece that fits the file agrees with it. Loss, repeats and order are free.
@@ -28,7 +33,16 @@ fresh {number} {l} a = opened number l (a .map) (a .buffer)
 abbrev pub receptionOf : {number l : ℕ} {file : List ℕ} → Station number l file → Reception
 receptionOf a = takenFrames (fresh a) (a .frames)
 
--- the receptions of the file that are made in this way, and by joining such
+-- Every reception of the file that comes of opening, taking frames in, joining, saving and loading, in any order.
 pub data Made (number l : ℕ) (file : List ℕ) : Reception → Type 0 where
-  station : (a : Station number l file) → Made number l file (receptionOf a)
-  together : (s t : Reception) → Made number l file s → Made number l file t → Made number l file (joined s t)
+  -- the file is opened in a map (a list of bytes) and a buffer, of any length in which it opens
+  by-opening : (map buffer : List ℕ) → AllBytes map → opening l map buffer ≡ accepted tt → Made number l file (opened number l map buffer)
+  -- a frame is taken in, and accepted or refused; if it is a piece that fits the file, it agrees with it
+  by-taking : (s : Reception) (frame : List ℕ) → Made number l file s → (fitsFile number l frame ≡ true → AgreesWith file (pieceIn frame))
+      → Made number l file (takenFrame s frame)
+  -- another is joined into it
+  by-joining : (s t : Reception) → Made number l file s → Made number l file t → Made number l file (joined s t)
+  -- it is saved, and its record is loaded into a map (a list of bytes) and a buffer, of any length that is enough; the file's number has
+  -- four bytes, as the record's has
+  by-loading : (s : Reception) (map buffer : List ℕ) → Made number l file s → number < 256 ^ 4 → AllBytes map → shortSpace l map buffer ≡ false
+      → Made number l file (loaded (recordOf s) map buffer)
