@@ -101,6 +101,14 @@ saving-says s target n e =
     let w = accepted-only-if (savingChecks s target) (recordLength (s .length)) n e in
     (w .0 .0, room-to-save (s .length) (s .map) (s .buffer) target (w .0 .1 .0) .2, w .1)
 
+-- A record that was written to a target is its first bytes.
+pub record-stands : (s : Reception) (target : List ℕ) → recordLength (s .length) ≤ length target
+    → take (recordLength (s .length)) (putIn target 0 (recordOf s)) ≡ recordOf s
+record-stands s target room =
+    let k = record-long s in
+    let z : recordLength (s .length) ≡ 0 + length (recordOf s) = omega (arith, k) in
+    ap (λ (i : ℕ). take i (putIn target 0 (recordOf s))) z ∙ put-take target 0 (recordOf s) (omega (arith, k, room))
+
 -- Where a reception is saved, the record is the first n bytes of the target, n being the answer; and that record, loaded into any
 -- map and buffer that are long enough, answers the reception's number and length and gives the reception back.
 pub load-after-save : (s : Reception) (target : List ℕ) (n : ℕ) → s .number < 256 ^ 4 → saving s target ≡ accepted n
@@ -109,10 +117,8 @@ pub load-after-save : (s : Reception) (target : List ℕ) (n : ℕ) → s .numbe
     → (loading (recordOf s) map buffer ≡ accepted (record { number = s .number; length = s .length }))
     × GivesBack s (loaded (recordOf s) map buffer))
 load-after-save s target n four e =
-    let w = saving-says s target n e in
-    let k = record-long s in
-    let z : n ≡ 0 + length (recordOf s) = omega (arith, w, k) in (
-      ap (λ (i : ℕ). take i (putIn target 0 (recordOf s))) z ∙ put-take target 0 (recordOf s) (omega (arith, w, k)),
+    let w = saving-says s target n e in (
+      ap (λ (i : ℕ). take i (putIn target 0 (recordOf s))) (w .2) ∙ record-stands s target (w .1),
       λ map buffer room. (loads-it s (w .0) four map buffer room, gives-back s (w .0) four map buffer room),
     )
 

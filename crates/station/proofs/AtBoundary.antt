@@ -4,15 +4,13 @@ use mathlib.Core.Path.{_≡_, refl, sym, ap, _∙_}
 use mathlib.Core.Bool.{true, false, and-false}
 use mathlib.Core.Logic.{_⊎_, inl, inr}
 use mathlib.Core.List.{List, [], _∷_}
-use Prim.Native.Nat.{ℕ, zero, suc, _+_, _-_, _^_, _≤_}
+use Prim.Native.Nat.{ℕ, zero, suc, _-_, _^_, _≤_}
 use native.Mathlib.Omega.{arith}
 use lib.ListN.{length, take, drop}
 use lib.Seq.{drop-drop}
 use borrow.Author.Tests.{le-ltb}
 use Rattle.reason.specs.Answer.{Answer, accepted, refused, leaving}
 use Rattle.reason.specs.Order.{Check, First, NoneHolds, Exactly}
-use Rattle.octets.specs.Runs.{putIn}
-use Rattle.octets.proofs.RunLaws.{put-take}
 use Rattle.ax25.specs.Address.{isWritable}
 use Rattle.ax25.specs.Head.{headChecks}
 use Rattle.ax25.specs.Information.{informationOf}
@@ -23,7 +21,6 @@ use Rattle.frame.specs.declared.Entry.{Entry}
 use Rattle.frame.specs.Piece.{pieceChecks, pieceOrder, bytesRead}
 use Rattle.frame.specs.Entry.{entryChecks, entryOrder, headerPart, headerBytesRead}
 use Rattle.frame.proofs.InOrder.{read-piece-in-order, read-entry-in-order}
-use Rattle.reception.specs.Reception.{Reception}
 use Rattle.reception.specs.Adding.{Offer, ofPiece, ofReception, after}
 use Rattle.reception.specs.Opening.{openingChecks}
 use Rattle.reception.specs.Joining.{joiningChecks, joining}
@@ -32,11 +29,10 @@ use Rattle.reception.proofs.InOrder.{open-in-order, join-in-order, list-in-orde
 use Rattle.request.specs.Reading.{requestChecks, requestOrder}
 use Rattle.request.specs.Writing.{fillChecks, startChecks}
 use Rattle.request.proofs.InOrder.{read-request-in-order, write-fill-in-order, write-start-in-order}
-use Rattle.record.specs.Record.{recordOf, recordLength}
 use Rattle.record.specs.Saving.{savingChecks}
 use Rattle.record.specs.Loading.{loadingChecks}
-use Rattle.record.proofs.RecordLaws.{record-long}
 use Rattle.record.proofs.GivenAnswers.{room-to-save}
+use Rattle.record.proofs.RoundTrip.{record-stands}
 use Rattle.record.proofs.InOrder.{save-in-order, load-in-order}
 use Rattle.station.specs.Taking.{pieceIn, frameChecks, takingFrame}
 use Rattle.station.specs.Lent.{receptionIn}
@@ -99,13 +95,6 @@ front-again : (n : ℕ) (s : List ℕ) → take (length (take n s)) s ≡ take n
 front-again zero s = refl
 front-again (suc n) [] = refl
 front-again (suc n) (b ∷ s) = ap (λ (r : List ℕ). b ∷ r) (front-again n s)
-
--- the record in the first bytes of a target, as many as it has
-record-stands : (s : Reception) (target : List ℕ) → recordLength (s .length) ≤ length target
-    → take (recordLength (s .length)) (putIn target 0 (recordOf s)) ≡ recordOf s
-record-stands s target room =
-    let z : recordLength (s .length) ≡ 0 + length (recordOf s) = omega (arith, record-long s) in
-    ap (λ (n : ℕ). take n (putIn target 0 (recordOf s))) z ∙ put-take target 0 (recordOf s) (omega (arith, z, room))
 
 -- what is left after an answer, as a reception
 counted-after : (number l : ℕ) (lent left : out.Counted) (o : Offer) (x : Answer ℕ) → left ≡ leaving (out.countedWith (out.lentTo number l lent) o) lent x

@@ -3,14 +3,13 @@
 use mathlib.Core.Path.{_≡_, refl, sym, ap, ap₂, _∙_}
 use mathlib.Core.Bool.{Bool, false}
 use mathlib.Core.List.{List, [], _∷_}
-use Prim.Native.Nat.{ℕ, _+_, _^_, _≤_, _<_}
+use Prim.Native.Nat.{ℕ, _^_, _≤_, _<_}
 use native.Mathlib.Omega.{arith}
 use lib.ListN.{length, take}
 use Rattle.reason.specs.declared.Outcome.{Outcome}
 use Rattle.reason.specs.Answer.{Answer, accepted, leaving}
 use Rattle.octets.specs.Numbers.{AllBytes}
 use Rattle.octets.specs.Runs.{putIn}
-use Rattle.octets.proofs.RunLaws.{put-take}
 use Rattle.reception.specs.declared.Added.{Added}
 use Rattle.reception.specs.Reception.{Reception, wrongLength, shortSpace}
 use Rattle.reception.specs.Adding.{Offer, after, Adds}
@@ -23,8 +22,7 @@ use Rattle.record.specs.Record.{recordOf, recordLength}
 use Rattle.record.specs.Saving.{savedAnswer, Saves}
 use Rattle.record.specs.Reading.{recordAnswer}
 use Rattle.record.specs.Loading.{loading, loadedMap, loadedBuffer, loaded, Loads}
-use Rattle.record.proofs.RecordLaws.{record-long}
-use Rattle.record.proofs.RoundTrip.{holding-is-saved, holding-is-loaded, holding-is-given-back}
+use Rattle.record.proofs.RoundTrip.{record-stands, holding-is-saved, holding-is-loaded, holding-is-given-back}
 use Rattle.station.specs.Lent.{Lent, receptionIn}
 use Rattle.station.specs.Sequences.{takenFrames}
 use Rattle.station.specs.Calls.{Calls, none, more}
@@ -62,10 +60,10 @@ module _ (number l : ℕ) (file : List ℕ) (ok : wrongLength l ≡ false) (set 
       → (savedAnswer r ≡ accepted (recordLength l)) × (take (recordLength l) left ≡ recordOf s)
   save-leaves target left r room w =
       let e = holding-is-saved number l file set s h ok target room in
-      let long = record-long s in
-      let z : recordLength l ≡ 0 + length (recordOf s) = let sized = h .sized in omega (arith, long, sized) in (
+      let z = h .sized in (
         w .answers ∙ e,
-        ap₂ take z (w .bytes ∙ ap (leaving (λ n. putIn target 0 (recordOf s)) target) e) ∙ put-take target 0 (recordOf s) (omega (arith, z, room)),
+        ap₂ (λ (n : ℕ) (x : List ℕ). take (recordLength n) x) (sym z) (w .bytes ∙ ap (leaving (λ n. putIn target 0 (recordOf s)) target) e)
+            ∙ record-stands s target (omega (arith, z, room)),
       )
 
   -- `load`, into a map and a buffer that are long enough
