@@ -435,7 +435,8 @@ fn a_definition_that_stands_in_no_row_is_told() {
 fn what_the_page_lacks_of_the_arrangement_is_told() {
     let row = "\n| Rule | Says it | Carries it | Cases |\n|-|-|-|-|\n| a rule | – | – | – |\n";
     let reasons: String = (1..=15).map(|number| format!("| {number}: a reason | – | – | – |\n")).collect();
-    let section = |name: &str| format!("## {name}\n{row}{}", if name == "Numbered reasons" { reasons.as_str() } else { "" });
+    let section =
+        |name: &str| format!("## {name}\n{row}{}", if name == "Numbered reasons" { reasons.as_str() } else { "" });
     let whole: String = SECTIONS.iter().map(|name| section(name)).collect();
     assert_eq!(arranged(&whole), [""; 0]);
     assert_eq!(arranged(&whole.replace("| 14: a", "| a")), ["reason 14 has no row"]);

@@ -77,7 +77,9 @@ fn links(page: &str) -> Vec<&str> {
 fn every_link_leads_to_a_file() {
     let project = Path::new(env!("CARGO_MANIFEST_DIR")).join("..");
     let mut found = 0;
-    for name in ["README.md", "docs/HOST.md", "docs/ARCHITECTURE.md", "docs/PROMISES.md", "docs/CASES.md"] {
+    for name in
+        ["README.md", "docs/HOST.md", "docs/ARCHITECTURE.md", "docs/RULES.md", "docs/PROMISES.md", "docs/CASES.md"]
+    {
         let folder = project.join(name);
         let folder = folder.parent().expect("a folder");
         for link in links(&page(name)) {
@@ -94,6 +96,7 @@ fn the_papers_have_their_names_where_they_are_met() {
         "docs/HOST.md",
         "docs/ARCHITECTURE.md",
         "docs/DECISIONS.md",
+        "docs/RULES.md",
         "docs/PROMISES.md",
         "docs/CASES.md",
         "host/samples/README.md",
