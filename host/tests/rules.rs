@@ -154,10 +154,12 @@ fn names(source: &str) -> Names {
             blocks.pop();
         }
         let inside = blocks.last().map_or("", |(_, kind)| *kind);
-        let mut words = code.split_whitespace().skip_while(|word| ["abbrev", "unfoldable"].contains(word)).peekable();
-        let public = words.next_if_eq(&"pub").is_some();
-        let word = words.next().unwrap_or("");
-        let next = words.next().unwrap_or("");
+        // `pub` stands first, or behind how a definition may be unfolded
+        let words: Vec<&str> = code.split_whitespace().collect();
+        let public = words.iter().take(2).position(|word| *word == "pub");
+        let mut words = words.into_iter().skip(public.map_or(0, |place| place + 1));
+        let (word, next) = (words.next().unwrap_or(""), words.next().unwrap_or(""));
+        let public = public.is_some();
         match word {
             "record" | "data" => {
                 if public {
@@ -166,11 +168,10 @@ fn names(source: &str) -> Names {
                 blocks.push((indent, word));
             }
             "module" => blocks.push((indent, word)),
-            _ if next != ":" => {}
-            _ if inside == "data" || inside == "record" && public => {
+            _ if next == ":" && (inside == "data" || inside == "record" && public) => {
                 names.members.insert(word.to_string());
             }
-            _ if public => {
+            _ if public && (next == ":" || next.is_empty()) => {
                 names.defined.insert(word.to_string());
             }
             _ => {}
@@ -342,8 +343,8 @@ const ADDRESS: &str = "-- abbrev pub said : in a comment
 abbrev pub isName : Bool
 isName = true
 
-unfoldable pub wellFormed :
-    Bool
+unfoldable pub wellFormed
+    : Bool
 
 pub record Says (s : List) : Type 0 where
   pub right : Bool
