@@ -20,20 +20,26 @@ use Rattle.ax25.specs.Address.{isName, isWritable, addressAt, wellFormed}
 use Rattle.ax25.specs.Head.{headChecks, headOf, headBytes}
 use Rattle.frame.specs.Piece.{pieceChecks, pieceFields, readPiece}
 use Rattle.reception.specs.Opening.{opening}
+use Rattle.reception.specs.Joining.{joining}
 use Rattle.reception.specs.Listing.{listing}
+use Rattle.record.specs.Record.{recordOf}
 use Rattle.station.specs.Taking.{takingFrame}
 use Rattle.reception.specs.Sequences.{AgreesWith}
 use Rattle.station.specs.Taking.{pieceIn}
 use Rattle.station.specs.Sequences.{AllAgree, Among}
-use Rattle.station.specs.Stations.{Station}
-use Rattle.station.specs.Cases.{front}
-use Rattle.station.specs.MoreCases.{file, heard, MoreCases}
+use Rattle.station.specs.Stations.{Station, Made, by-opening, by-taking, by-joining, by-loading}
+use Rattle.station.specs.Cases.{twenty, front}
+use Rattle.station.specs.MoreCases.{file, heard, ten, eighteen, handedOn, MoreCases}
 
 bytes-of-three : AllBytes (replicate 3 0xFF)
 bytes-of-three zero = omega arith
 bytes-of-three (suc zero) = omega arith
 bytes-of-three (suc (suc zero)) = omega arith
 bytes-of-three (suc (suc (suc i))) = omega arith
+
+bytes-of-four : AllBytes (replicate 4 0xFF)
+bytes-of-four zero = omega arith
+bytes-of-four (suc i) = bytes-of-three i
 
 -- what `front` says is the file's; the other frames do not fit
 front-agrees : AgreesWith file (pieceIn front)
@@ -52,6 +58,19 @@ unfolding firstOf putIn withBit withBits messageBits remainderOf checkRight figu
 heard-agree =
     (λ _. front-agrees, (unfit, (unfit, (unfit, (unfit, (unfit, (λ _. front-agrees, tt)))))))
 
+-- the two other pieces
+ten-agrees : AgreesWith file (pieceIn ten)
+unfolding withBit withBits messageBits remainderOf headBytes pieceFields
+ten-agrees zero h = refl
+ten-agrees (suc zero) h = refl
+ten-agrees (suc (suc i)) h = absurd (omega (arith, h))
+
+eighteen-agrees : AgreesWith file (pieceIn eighteen)
+unfolding withBit withBits messageBits remainderOf headBytes pieceFields
+eighteen-agrees zero h = refl
+eighteen-agrees (suc zero) h = refl
+eighteen-agrees (suc (suc i)) h = absurd (omega (arith, h))
+
 opens-twenty : opening 20 (replicate 3 0xFF) (replicate 20 0xFF) ≡ accepted tt
 unfolding firstOf opening
 opens-twenty = refl
@@ -60,14 +79,26 @@ opens-twenty = refl
 abbrev example : Station 7 20 file
 example = record { map = replicate 3 0xFF; buffer = replicate 20 0xFF; bytes = bytes-of-three; opens = opens-twenty; frames = heard; agree = heard-agree }
 
+-- a reception with one piece, opened in space that held something else
+one-piece : (frame : List ℕ) → AgreesWith file (pieceIn frame) → Made 7 20 file (twenty (frame ∷ []))
+one-piece frame agree = by-taking _ frame (by-opening (replicate 3 0xFF) (replicate 20 0xFF) bytes-of-three opens-twenty) (λ _. agree)
+
+handed-on : Made 7 20 file handedOn
+handed-on =
+    by-taking _ eighteen
+    (by-loading _ (replicate 4 0xFF) (replicate 21 0xFF)
+    (by-joining _ _ (one-piece front front-agrees) (one-piece ten ten-agrees)) (omega arith) bytes-of-four refl) (λ _. eighteen-agrees)
+
 among-any : (frame : List ℕ) (before behind : List (List ℕ)) → Among frame (before ++ frame ∷ behind)
 among-any frame [] behind = inl refl
 among-any frame (f ∷ before) behind = inr (among-any frame before behind)
 
 pub more-cases : MoreCases
-unfolding firstOf putIn withBit withBits messageBits remainderOf checkRight figure32 isName isWritable addressAt wellFormed headChecks headOf headBytes pieceChecks pieceFields readPiece every count first bit held bitsFrom mapOf opening listing takingFrame
+unfolding firstOf putIn withBit withBits messageBits remainderOf checkRight figure32 isName isWritable addressAt wellFormed headChecks headOf headBytes pieceChecks pieceFields readPiece every count first bit held bitsFrom mapOf opening joining listing recordOf takingFrame
 more-cases = record {
   a-station = (example, (refl, refl));
+  a-reception-handed-on = handed-on;
+  handed-on-map = refl;
   among-any = among-any;
   differing-leaves = refl;
   refused-covers-nothing = refl;

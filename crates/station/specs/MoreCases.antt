@@ -8,10 +8,14 @@ use lib.ListN.{set, take, replicate}
 use Rattle.reason.specs.Answer.{accepted, refused}
 use Rattle.ax25.specs.Examples.{va3sfl, uosat5}
 use Rattle.frame.specs.Made.{pieceFrame}
+use Rattle.reception.specs.Reception.{Reception}
+use Rattle.reception.specs.Joining.{joined}
 use Rattle.reception.specs.Listing.{listing}
+use Rattle.record.specs.Record.{recordOf}
+use Rattle.record.specs.Loading.{loaded}
 use Rattle.station.specs.Taking.{takingFrame, takenFrame}
 use Rattle.station.specs.Sequences.{coveredIn, Among}
-use Rattle.station.specs.Stations.{Station, receptionOf}
+use Rattle.station.specs.Stations.{Station, receptionOf, Made}
 use Rattle.station.specs.Cases.{frameAt, twenty, longestFile, front}
 use Rattle.station.specs.BoundaryCases.{entryFrame}
 
@@ -26,6 +30,17 @@ ofAnother = pieceFrame (record { head = record { destination = va3sfl; source = 
 abbrev pub heard : List (List ℕ)
 heard = front ∷ ofAnother ∷ frameAt 19 (0x00 ∷ 0x00 ∷ []) ∷ set front 25 0x00 ∷ take 20 front ∷ entryFrame ∷ front ∷ []
 
+-- two more pieces of the file
+abbrev pub ten : List ℕ
+ten = frameAt 10 (0x45 ∷ 0x45 ∷ [])
+
+abbrev pub eighteen : List ℕ
+eighteen = frameAt 18 (0x45 ∷ 0x45 ∷ [])
+
+-- a reception that two stations made: joined, saved, loaded into longer space, and then a frame more
+abbrev pub handedOn : Reception
+handedOn = takenFrame (loaded (recordOf (joined (twenty (front ∷ [])) (twenty (ten ∷ [])))) (replicate 4 0xFF) (replicate 21 0xFF)) eighteen
+
 -- a piece that differs at 3, which `front` holds
 abbrev pub differing : List ℕ
 differing = frameAt 3 (0x45 ∷ 0x46 ∷ [])
@@ -33,6 +48,9 @@ differing = frameAt 3 (0x45 ∷ 0x46 ∷ [])
 pub record MoreCases : Type 0 where
   -- there is such a station, and it holds what `front` covers
   pub a-station : (a : Station 7 20 file) × ((a .frames ≡ heard) × (receptionOf a .map ≡ 0x0F ∷ 0x00 ∷ 0x00 ∷ []))
+  -- what is joined, saved and loaded and then takes a frame in is among the receptions of demand 3
+  pub a-reception-handed-on : Made 7 20 file handedOn
+  pub handed-on-map : handedOn .map ≡ 0x0F ∷ 0x0C ∷ 0x0C ∷ 0xFF ∷ []
   pub among-any : (frame : List ℕ) (before behind : List (List ℕ)) → Among frame (before ++ frame ∷ behind)
   -- a refused frame stores and covers nothing, and frames are taken in their order
   pub differing-leaves : takenFrame (twenty (front ∷ [])) differing ≡ twenty (front ∷ [])
