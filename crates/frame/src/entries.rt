@@ -29,13 +29,11 @@ pub(crate) fn read(s: &[u8], head: Head) -> EntryRead
         return EntryRead::Refused(6);
     }
     let flags = s[0];
-    let offset = octets::number4(s, 5);
-    let allowed = flags_allowed(flags);
-    let whole = header_whole(flags, offset);
-    if !allowed {
+    if !flags_allowed(flags) {
         return EntryRead::Refused(5);
     }
-    if !whole {
+    let offset = octets::number4(s, 5);
+    if !header_whole(flags, offset) {
         return EntryRead::Refused(14);
     }
     let number = octets::number4(s, 1);

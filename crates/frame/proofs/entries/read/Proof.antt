@@ -75,37 +75,41 @@ long c = c .before .before .if1 .left
 right : (c : tie.Else2) → checkRight (now (E c .args .s)) ≡ true
 right c = sym (c .before .check-right .ensures) ∙ not-false _ (c .if2 .left)
 
--- what the two tests of the flags and the offset answered
-abbrev J : tie.After-header-whole → tie.Else2
-J c = c .before .before .before .before
+-- past the test of the flags
+abbrev J : tie.Else3 → tie.Else2
+J c = c .before .before .before
 
-judged : (c : tie.After-header-whole) → let s = now (E (J c) .args .s) in c .header-whole .result ≡ headerWhole (byteAt s 0) (numberAt 4 s 5)
-judged c = c .header-whole .ensures ∙ ap (headerWhole (byteAt (now (E (J c) .args .s)) 0)) (c .before .before .number4 .ensures)
+flagged : (c : tie.Else3) → flagsAllowed (byteAt (now (E (J c) .args .s)) 0) ≡ true
+flagged c = sym (c .before .flags-allowed .ensures) ∙ not-false _ (c .if3 .left)
 
-flagged : (c : tie.Else3) → flagsAllowed (byteAt (now (E (J (c .before)) .args .s)) 0) ≡ true
-flagged c = sym (c .before .before .flags-allowed .ensures) ∙ not-false _ (c .if3 .left)
+-- what the test of bit 5 and the offset answered, and past it
+judged : (c : tie.After-header-whole) → let s = now (E (J (c .before .before)) .args .s) in c .header-whole .result ≡ headerWhole (byteAt s 0) (numberAt 4 s 5)
+judged c = c .header-whole .ensures ∙ ap (headerWhole (byteAt (now (E (J (c .before .before)) .args .s)) 0)) (c .before .number4 .ensures)
 
-abbrev K : tie.Else4 → tie.Else2
-K c = J (c .before .before)
+abbrev K : tie.Else4 → tie.Else3
+K c = c .before .before .before
 
-whole : (c : tie.Else4) → let s = now (E (K c) .args .s) in headerWhole (byteAt s 0) (numberAt 4 s 5) ≡ true
-whole c = sym (judged (c .before .before)) ∙ not-false _ (c .if4 .left)
+whole : (c : tie.Else4) → let s = now (E (J (K c)) .args .s) in headerWhole (byteAt s 0) (numberAt 4 s 5) ≡ true
+whole c = sym (judged (c .before)) ∙ not-false _ (c .if4 .left)
 
 -- what is known past the header's answer: the information, and that only the header is left to decide
 abbrev F : tie.After-read-header → tie.Else4
 F r = r .before .before .before .before .before
 
+abbrev I : tie.After-read-header → tie.Else2
+I r = J (K (F r))
+
 abbrev S : tie.After-read-header → List ℕ
-S r = now (E (K (F r)) .args .s)
+S r = now (E (I r) .args .s)
 
 named : (r : tie.After-read-header) → r .before .before .before .before .number42 .result ≡ numberAt 4 (S r) 1
 named r = r .before .before .before .before .number42 .ensures
 
 decides-8 : {A : Type 0} (r : tie.After-read-header) (a : A) → headerRight (S r) ≡ false → refused 8 ≡ firstOf (entryChecks (S r)) a
-decides-8 r a h = sym (reads-8 (S r) a (long (K (F r))) (right (K (F r))) (flagged (F r .before)) (whole (F r)) h)
+decides-8 r a h = sym (reads-8 (S r) a (long (I r)) (right (I r)) (flagged (K (F r))) (whole (F r)) h)
 
 decides : {A : Type 0} (r : tie.After-read-header) (a : A) → headerRight (S r) ≡ true → accepted a ≡ firstOf (entryChecks (S r)) a
-decides r a h = sym (reads-entry (S r) a (long (K (F r))) (right (K (F r))) (flagged (F r .before)) (whole (F r)) h)
+decides r a h = sym (reads-entry (S r) a (long (I r)) (right (I r)) (flagged (K (F r))) (whole (F r)) h)
 
 returns : tie.Need-returns
 returns c = sym (reads-1 (now (c .before .before .args .s)) _ (c .if1 .taken))
@@ -119,23 +123,23 @@ returns-2 c = let e = c .before .before .before .before in sym (reads-6 (now (e 
 shared-slice-read-flags : tie.Need-shared-slice-read-flags
 shared-slice-read-flags c = search needs
 
-number4-requires : tie.Need-number4-requires
-number4-requires c κs = search needs
-
 flags-allowed-requires : tie.Need-flags-allowed-requires
 flags-allowed-requires c κs = search needs
+
+returns-3 : tie.Need-returns-3
+returns-3 c = let k = c .before .before .before in sym (reads-5 (now (E k .args .s)) _ (long k) (right k) (sym (c .before .flags-allowed .ensures) ∙ not-true _ (c .if3 .taken)))
+
+number4-requires : tie.Need-number4-requires
+number4-requires c κs = search needs
 
 header-whole-requires : tie.Need-header-whole-requires
 header-whole-requires c κs = search needs
 
-returns-3 : tie.Need-returns-3
-returns-3 c = let k = J (c .before) in sym (reads-5 (now (E k .args .s)) _ (long k) (right k) (sym (c .before .before .flags-allowed .ensures) ∙ not-true _ (c .if3 .taken)))
-
 returns-4 : tie.Need-returns-4
 returns-4 c =
-    let h = c .before .before in
-    let k = J h in
-    sym (reads-14 (now (E k .args .s)) _ (long k) (right k) (flagged (c .before)) (sym (judged h) ∙ not-true _ (c .if4 .taken)))
+    let f = c .before .before .before in
+    let k = J f in
+    sym (reads-14 (now (E k .args .s)) _ (long k) (right k) (flagged f) (sym (judged (c .before)) ∙ not-true _ (c .if4 .taken)))
 
 number4-requires-2 : tie.Need-number4-requires-2
 number4-requires-2 c κs = search needs
@@ -170,27 +174,27 @@ enum-told c = search needs
 returns-5 : tie.Need-returns-5
 returns-5 c =
     let r = c .before .before in
-    decides-8 r _ (not-header (S r) (long (K (F r))) _ (named r) _ (r .read-header .ensures) _ (c .enum-told .given .1))
+    decides-8 r _ (not-header (S r) (long (I r)) _ (named r) _ (r .read-header .ensures) _ (c .enum-told .given .1))
 
 sub-if5 : tie.Need-sub-if5
-sub-if5 c = omega (arith, long (K (c .before .before .before .before .before .before .before .before)))
+sub-if5 c = omega (arith, long (I (c .before .before .before)))
 
 returns-6 : tie.Need-returns-6
 returns-6 c =
     let h = c .before .before .before in
     let r = h .before .before in
-    decides-8 r _ (followed (S r) (long (K (F r))) _ (named r) _ (r .read-header .ensures) _ (h .header .given .1) (c .if5 .taken))
+    decides-8 r _ (followed (S r) (long (I r)) _ (named r) _ (r .read-header .ensures) _ (h .header .given .1) (c .if5 .taken))
 
 returns-7 : tie.Need-returns-7
 returns-7 c =
     let h = c .before .before .before in
     let r = h .before .before in
-    let part = is (S r) (long (K (F r))) _ (named r) _ (r .read-header .ensures) _ (h .header .given .1) in
-    let offset = F r .before .before .before .before .number4 .ensures in
+    let part = is (S r) (long (I r)) _ (named r) _ (r .read-header .ensures) _ (h .header .given .1) in
+    let offset = F r .before .before .number4 .ensures in
     let old = r .before .before .before .number43 .ensures in
     let new = r .before .before .number44 .ensures in
-    ap accepted (fields (E (K (F r)) .args .head) (S r) _ _ _ _ _ (named r) offset old new part)
-    ∙ decides r _ (alone (S r) (long (K (F r))) _ (named r) _ (r .read-header .ensures) _ (h .header .given .1) (c .if5 .left))
+    ap accepted (fields (E (I r) .args .head) (S r) _ _ _ _ _ (named r) offset old new part)
+    ∙ decides r _ (alone (S r) (long (I r)) _ (named r) _ (r .read-header .ensures) _ (h .header .given .1) (c .if5 .left))
 
 pub read-spec : {M : Type 1} → statement M
 read-spec =
@@ -200,10 +204,10 @@ read-spec =
     check-right-requires
     returns-2
     shared-slice-read-flags
-    number4-requires
     flags-allowed-requires
-    header-whole-requires
     returns-3
+    number4-requires
+    header-whole-requires
     returns-4
     number4-requires-2
     number4-requires-3
