@@ -10,13 +10,14 @@ ghost use Rattle.reason.specs.Order.{firstOf};
 ghost use Rattle.ax25.specs.Information.{informationOf};
 ghost use Rattle.frame.specs.Entry.{flagsAllowed, headerWhole, entryChecks, entryFields, entryAnswer, headerPart};
 
-// How many bytes stand before the file header; the information of an entry with an empty header, and how
-// many bytes its frame has.
-const BEFORE_HEADER: usize = 17;
+// How many bytes stand before the file header: flags, number, offset, time old and time new.
+pub(crate) const BEFORE_HEADER: usize = 17;
 
-const LEAST: usize = 19;
+// How many bytes an entry with an empty header has, its information and its frame: those before the header
+// and the check.
+const LEAST: usize = BEFORE_HEADER + CHECK_LENGTH;
 
-const NO_HEADER: usize = 35;
+const NO_HEADER: usize = HEADER_AT + CHECK_LENGTH;
 
 // Reads the information of a frame with the head; refuses 1, 6, 5, 14, 8.
 pub(crate) fn read(s: &[u8], head: Head) -> EntryRead

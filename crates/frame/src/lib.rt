@@ -14,16 +14,18 @@ use ax25::FILE;
 use ax25::HEAD_LENGTH;
 use ax25::Head;
 use ax25::HeadRead;
+use entries::BEFORE_HEADER;
 use header::Header;
+use pieces::BEFORE_DATA;
 ghost use mathlib.Core.Path.{_≡_};
 ghost use Rattle.frame.specs.Piece.{pieceAnswer, readPiece, pieceBytes, bytesRead};
 ghost use Rattle.frame.specs.Entry.{entryAnswer, readEntry, headerBytes, headerBytesRead};
 
 // Where the bytes of a piece start in its frame: behind the head and the nine header bytes.
-pub const DATA_AT: usize = 25;
+pub const DATA_AT: usize = HEAD_LENGTH + BEFORE_DATA;
 
 // Where the file header of an entry starts in its frame: behind the head and the bytes up to time new.
-pub const HEADER_AT: usize = 33;
+pub const HEADER_AT: usize = HEAD_LENGTH + BEFORE_HEADER;
 
 // How many check bytes stand at the end of the information.
 const CHECK_LENGTH: usize = 2;

@@ -8,13 +8,17 @@ ghost use mathlib.Core.Path.{_≡_};
 ghost use Rattle.reason.specs.Order.{firstOf};
 ghost use Rattle.frame.specs.Piece.{pieceChecks, pieceFields, pieceAnswer, pieceData};
 
-// The flags of every piece; the information of a piece without data: nine header bytes and the check;
-// and how many bytes a frame without data has.
+// The flags of every piece.
 const FLAGS: u8 = 0x02;
 
-const LEAST: usize = 11;
+// How many bytes stand before the data: flags, number, type and offset, the nine header bytes.
+pub(crate) const BEFORE_DATA: usize = 9;
 
-const NO_DATA: usize = 27;
+// How many bytes a piece without data has, its information and its frame: the nine header bytes and the
+// check.
+const LEAST: usize = BEFORE_DATA + CHECK_LENGTH;
+
+const NO_DATA: usize = DATA_AT + CHECK_LENGTH;
 
 // Reads the information of a frame with the head; refuses 1, 6, 5, 7.
 pub(crate) fn read(s: &[u8], head: Head) -> PieceRead

@@ -183,7 +183,7 @@ returns-6 : tie.Need-returns-6
 returns-6 c =
     let h = c .before .before .before in
     let r = h .before .before in
-    decides-8 r _ (followed (S r) (long (I r)) _ (named r) _ (r .read-header .ensures) _ (h .header .given .1) (c .if5 .taken))
+    decides-8 r _ (followed (S r) (long (I r)) _ (named r) _ (r .read-header .ensures) _ (h .header .given .1) (λ e. omega (arith, e, c .if5 .taken)))
 
 returns-7 : tie.Need-returns-7
 returns-7 c =
