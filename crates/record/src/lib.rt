@@ -7,6 +7,7 @@
 mod reading;
 mod writing;
 
+use reception::LONGEST;
 ghost use mathlib.Core.Path.{_≡_};
 ghost use Rattle.record.specs.Saving.{Saves};
 ghost use Rattle.record.specs.Reading.{readRecord, recordAnswer, mapRead};
@@ -21,11 +22,30 @@ const MAP_TAG: u8 = 3;
 
 const BYTES_TAG: u8 = 4;
 
-// Where the map stands in a record.
-const MAP_AT: usize = 17;
+// How many bytes stand before the data of a field, its tag and its length, and how many bytes of data the
+// fields of the number and of the length have.
+const BEFORE_DATA: usize = 3;
 
-// The largest record.
-pub const LARGEST: usize = 36884;
+const NUMBER_SIZE: usize = 4;
+
+// Where the fields start in a record, and where their data stand: number, length and map. The field of the
+// bytes starts behind the map (`reading::bytes_at`).
+const NUMBER_FIELD: usize = 0;
+
+const NUMBER_AT: usize = NUMBER_FIELD + BEFORE_DATA;
+
+const LENGTH_FIELD: usize = NUMBER_AT + NUMBER_SIZE;
+
+const LENGTH_AT: usize = LENGTH_FIELD + BEFORE_DATA;
+
+const MAP_FIELD: usize = LENGTH_AT + NUMBER_SIZE;
+
+const MAP_AT: usize = MAP_FIELD + BEFORE_DATA;
+
+// How many bytes the record of the longest file has: no record is larger (`proofs/RoundTrip.antt`,
+// `never-larger` and `largest-is`). The hole program lends an array of one byte more under a promise that names
+// what it must be.
+pub const LARGEST: usize = MAP_AT + (LONGEST as usize + 7) / 8 + BEFORE_DATA + LONGEST as usize;
 
 // What saving answers: the record's size, or the number of the reason.
 pub enum Saved {

@@ -1,8 +1,15 @@
 // A record, read.
+use super::BEFORE_DATA;
 use super::BYTES_TAG;
+use super::LENGTH_AT;
+use super::LENGTH_FIELD;
 use super::LENGTH_TAG;
 use super::MAP_AT;
+use super::MAP_FIELD;
 use super::MAP_TAG;
+use super::NUMBER_AT;
+use super::NUMBER_FIELD;
+use super::NUMBER_SIZE;
 use super::NUMBER_TAG;
 use super::Recorded;
 ghost use mathlib.Core.Path.{_≡_};
@@ -22,7 +29,7 @@ ghost use Rattle.record.specs.Inner.{clearAt};
 pub(crate) fn bytes_at(l: u32) -> usize
     ensures { λ r. ⌜ r ≡ bytesAt l ⌝ }
 {
-    MAP_AT + reception::map_size(l) + 3
+    MAP_AT + reception::map_size(l) + BEFORE_DATA
 }
 
 // How many bytes the record of a file of a length has.
@@ -37,8 +44,8 @@ pub(crate) fn says(saved: &[u8]) -> Recorded
     ensures { λ r. ⌜ r ≡ recordedIn (now (saved .entry)) ⌝ }
 {
     Recorded {
-        number: octets::number4(saved, 3),
-        length: octets::number4(saved, 10),
+        number: octets::number4(saved, NUMBER_AT),
+        length: octets::number4(saved, LENGTH_AT),
     }
 }
 
@@ -58,7 +65,7 @@ pub(crate) fn map_in(saved: &[u8]) -> &[u8]
     requires { ⌜ recordLength (lengthIn (now saved)) ≤ length (now saved) ⌝ }
     ensures { λ r. ⌜ now r ≡ mapIn (now (saved .entry)) ⌝ }
 {
-    let l = octets::number4(saved, 10);
+    let l = octets::number4(saved, LENGTH_AT);
     let end = MAP_AT + reception::map_size(l);
     &saved[MAP_AT..end]
 }
@@ -68,7 +75,7 @@ pub(crate) fn bytes_in(saved: &[u8]) -> &[u8]
     requires { ⌜ recordLength (lengthIn (now saved)) ≤ length (now saved) ⌝ }
     ensures { λ r. ⌜ now r ≡ bytesIn (now (saved .entry)) ⌝ }
 {
-    let l = octets::number4(saved, 10);
+    let l = octets::number4(saved, LENGTH_AT);
     let from = bytes_at(l);
     let end = record_length(l);
     &saved[from..end]
@@ -79,7 +86,7 @@ pub(crate) fn bytes_in(saved: &[u8]) -> &[u8]
 pub(crate) fn is_record(saved: &[u8]) -> bool
     ensures { λ r. ⌜ r ≡ isRecord (now (saved .entry)) ⌝ }
 {
-    let l = octets::number4(saved, 10);
+    let l = octets::number4(saved, LENGTH_AT);
     if reception::wrong_length(l) {
         return false;
     }
@@ -110,9 +117,9 @@ fn fields_right(saved: &[u8], l: u32) -> bool
     ensures { λ r. ⌜ r ≡ fieldsRight l (now (saved .entry)) ⌝ }
 {
     let size = reception::map_size(l);
-    let first = field_at(saved, 0, NUMBER_TAG, 4);
-    let second = field_at(saved, 7, LENGTH_TAG, 4);
-    let third = field_at(saved, 14, MAP_TAG, size);
+    let first = field_at(saved, NUMBER_FIELD, NUMBER_TAG, NUMBER_SIZE);
+    let second = field_at(saved, LENGTH_FIELD, LENGTH_TAG, NUMBER_SIZE);
+    let third = field_at(saved, MAP_FIELD, MAP_TAG, size);
     let fourth = field_at(saved, MAP_AT + size, BYTES_TAG, l as usize);
     first & second & third & fourth
 }

@@ -1,4 +1,5 @@
 // A record, written.
+use super::BEFORE_DATA;
 use super::BYTES_TAG;
 use super::LENGTH_TAG;
 use super::MAP_AT;
@@ -18,7 +19,7 @@ ghost use Rattle.record.specs.Record.{field, savedMap, savedBytes, recor
 ghost use Rattle.record.specs.Inner.{byteSaved};
 
 // The bytes before the map: the fields of the number and of the length, and the tag and length of the map's.
-fn before_map(number: u32, length: u32) -> [u8; 17]
+fn before_map(number: u32, length: u32) -> [u8; MAP_AT]
     requires { ⌜ length ≤ longest ⌝ }
     ensures { λ r. ⌜ r ≡ field 1 (bytesOf 4 number) ++ field 2 (bytesOf 4 length) ++ 3 ∷ bytesOf 2 (mapSize length) ⌝ }
 {
@@ -47,7 +48,7 @@ fn before_map(number: u32, length: u32) -> [u8; 17]
 }
 
 // The tag and length of the field of the bytes.
-fn before_bytes(length: u32) -> [u8; 3]
+fn before_bytes(length: u32) -> [u8; BEFORE_DATA]
     requires { ⌜ length ≤ longest ⌝ }
     ensures { λ r. ⌜ r ≡ 4 ∷ bytesOf 2 length ⌝ }
 {
@@ -163,5 +164,5 @@ pub(crate) fn write(number: u32, l: u32, map: &[u8], buffer: &[u8], target: &mut
     octets::put(target, 0, &before_map(number, l));
     put_map(map, n, target, MAP_AT);
     octets::put(target, MAP_AT + size, &before_bytes(l));
-    put_bytes(map, buffer, n, target, MAP_AT + size + 3);
+    put_bytes(map, buffer, n, target, MAP_AT + size + BEFORE_DATA);
 }

@@ -11,6 +11,7 @@ use lib.ListN.{length, take}
 use lib.Seq.{take-all, length-take-le}
 use borrow.Author.Tests.{ltb-false}
 use Rattle.reason.specs.Answer.{Answer, accepted, refused, leaving}
+use Rattle.reason.specs.Order.{firstOf}
 use Rattle.reason.proofs.Bools.{le-or-lt}
 use Rattle.reason.proofs.OrderLaws.{accepted-only-if}
 use Rattle.octets.specs.Runs.{putIn}
@@ -69,6 +70,17 @@ cut-says-the-same s n h =
     let size : length (take n s) ≡ n = length-take-le n s (omega arith) in
     too-long-is-refused (take n s) (omega arith) ∙ sym (too-long-is-refused s (omega arith)))
     (le-or-lt (length s) n)
+
+-- What is promised of the text of those bytes is promised of the whole input.
+pub cut-reports-the-same : (s out : List ℕ) (n : ℕ) (r : Reported) (left : List ℕ) → recordLength longest < n
+    → Reports (take n s) out r left → Reports s out r left
+unfolding reporting
+cut-reports-the-same s out n r left h w =
+    let same = cut-says-the-same s n h in
+    record {
+      answers = w .answers ∙ ap (λ (t : List ℕ). firstOf (reportingChecks out) (length t)) same;
+      bytes = w .bytes ∙ ap (λ (t : List ℕ). leaving (λ k. putIn out 0 t) out (firstOf (reportingChecks out) (length t))) same;
+    }
 
 -- The text of a record lists every hole of its map, once, ascending.
 pub text-lists-every-hole : (s : List ℕ) (r : Recorded) → readRecord s ≡ accepted r

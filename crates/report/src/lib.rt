@@ -5,11 +5,18 @@
 mod lines;
 mod number;
 
+use reception::LONGEST;
 use record::RecordRead;
 ghost use Rattle.report.specs.Reporting.{Reports};
 
-// No text is longer than this.
-pub const LONGEST_TEXT: usize = 196654;
+// The longest first line, with numbers of ten, five and five digits, and the longest line of a hole; there is
+// at most one hole to two positions.
+const FIRST_LINE: usize = 40;
+
+const HOLE_LINE: usize = 12;
+
+// No text is longer than this (`proofs/WholeInput.antt`, `text-fits`).
+pub const LONGEST_TEXT: usize = FIRST_LINE + HOLE_LINE / 2 * (LONGEST as usize + 1);
 
 // What `report` answers: how many bytes the text has, or the number of the reason.
 pub enum Reported {

@@ -6,6 +6,7 @@ pub mod InOrder
 pub mod OnlyOne
 pub mod RoundTrip
 pub mod SentLaws
+pub mod EnoughRoom
 pub mod WholeRun
 pub mod Naming
 pub mod WrittenAgain

@@ -27,8 +27,10 @@ ghost use Rattle.request.specs.Writing.{Fills, starting};
 // The most holes of a request.
 pub const MOST_HOLES: u32 = 49;
 
-// How many bytes a frame of the most holes has: a target of this length is never too short.
-pub const LONGEST_REQUEST: usize = 268;
+// How many bytes a frame of the most holes has: a target of this length is never too short
+// (`proofs/EnoughRoom.antt`). `write_start` compares with the first summand, and `write_fill` lends an array
+// of the second, each under a promise that names what it must be.
+pub const LONGEST_REQUEST: usize = HOLES_AT + ENTRIES;
 
 // The flags of a request for the start and of one that lists holes, and the block size of both.
 const START_FLAGS: u8 = 0x10;
@@ -41,12 +43,12 @@ const BLOCK_SIZE: u16 = 244;
 // bytes a hole takes.
 const BEFORE_HOLES: usize = 7;
 
-const HOLES_AT: usize = 23;
+const HOLES_AT: usize = HEAD_LENGTH + BEFORE_HOLES;
 
 const BYTES_PER_HOLE: usize = 5;
 
 // How many bytes the most holes take.
-const ENTRIES: usize = 245;
+const ENTRIES: usize = MOST_HOLES as usize * BYTES_PER_HOLE;
 
 // What a request asks for: the start of a file, or the holes that it lists.
 pub enum Asks {
