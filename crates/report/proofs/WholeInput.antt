@@ -71,12 +71,12 @@ cut-says-the-same s n h =
     too-long-is-refused (take n s) (omega arith) ∙ sym (too-long-is-refused s (omega arith)))
     (le-or-lt (length s) n)
 
--- What is promised of the text of those bytes is promised of the whole input.
-pub cut-reports-the-same : (s out : List ℕ) (n : ℕ) (r : Reported) (left : List ℕ) → recordLength longest < n
-    → Reports (take n s) out r left → Reports s out r left
+-- What is promised of the text of what was read is promised of the whole input: all of it was read, or that many bytes.
+pub cut-reports-the-same : (s read out : List ℕ) (n : ℕ) (r : Reported) (left : List ℕ) → recordLength longest < n → take n s ≡ read
+    → Reports read out r left → Reports s out r left
 unfolding reporting
-cut-reports-the-same s out n r left h w =
-    let same = cut-says-the-same s n h in
+cut-reports-the-same s read out n r left h e w =
+    let same : textOf read ≡ textOf s = ap textOf (sym e) ∙ cut-says-the-same s n h in
     record {
       answers = w .answers ∙ ap (λ (t : List ℕ). firstOf (reportingChecks out) (length t)) same;
       bytes = w .bytes ∙ ap (λ (t : List ℕ). leaving (λ k. putIn out 0 t) out (firstOf (reportingChecks out) (length t))) same;

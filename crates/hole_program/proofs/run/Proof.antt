@@ -7,11 +7,12 @@ use Rattle.hole_program.proofs.run.Reads as reads
 use Rattle.hole_program.proofs.run.Lts as lts
 use Rattle.io.proofs.read_full.Reads as read-full-reads
 use Rattle.io.proofs.write_all.Reads as write-all-reads
-use Rattle.report.proofs.report.Reads as report-reads
+use Rattle.hole_program.proofs.report_all.Reads as report-all-reads
 use mathlib.Core.Path.{sym}
 use Prim.Native.Nat.{_≤_}
-use lib.ListN.{length}
-use lib.Seq.{length-take-le}
+use native.Mathlib.Omega.{arith}
+use lib.ListN.{length, take}
+use lib.Seq.{take-all, length-take-le}
 use Rattle.report.proofs.WholeInput.{told-within}
 
 slice-aggregate-read-full : tie.Need-slice-aggregate-read-full
@@ -20,17 +21,14 @@ slice-aggregate-read-full c = search needs
 read-full-requires : tie.Need-read-full-requires
 read-full-requires c κs = search needs
 
-array-share-prefix-input : tie.Need-array-share-prefix-input
-array-share-prefix-input c = search needs
+slice-aggregate-report-all : tie.Need-slice-aggregate-report-all
+slice-aggregate-report-all c = search needs
 
-slice-aggregate-report : tie.Need-slice-aggregate-report
-slice-aggregate-report c = search needs
+slice-aggregate-report-all-2 : tie.Need-slice-aggregate-report-all-2
+slice-aggregate-report-all-2 c = search needs
 
-slice-aggregate-report-2 : tie.Need-slice-aggregate-report-2
-slice-aggregate-report-2 c = search needs
-
-report-requires : tie.Need-report-requires
-report-requires c κs = search needs
+report-all-requires : tie.Need-report-all-requires
+report-all-requires c κs = search needs
 
 enum-known-size : tie.Need-enum-known-size
 enum-known-size c = search needs
@@ -41,8 +39,15 @@ enum-told c = search needs
 returns : tie.Need-returns
 returns c = search needs
 
-size-fits : (c : tie.After-size) → c .size .given .0 .0 ≤ length (c .before .before .before .report .last .1 .0)
-size-fits c = let r = c .before .before .before in told-within _ _ (r .report .result) _ (c .size .given .0 .0) (r .report .ensures) (c .size .given .1)
+-- the size told is that of the text of what was read, taken for the whole input
+size-fits : (c : tie.After-size) → c .size .given .0 .0 ≤ length (c .before .before .before .report-all .last .1 .1 .0)
+size-fits c =
+    let r = c .before .before .before in
+    let f = r .before .before .before .before .read-full in
+    let short = f .ensures in
+    let read = take (f .result) (f .last .1 .0) in
+    let all = take-all (length (f .last .1 .0)) read (omega (arith, short)) in
+    told-within read _ (r .report-all .result) _ (c .size .given .0 .0) (r .report-all .ensures read all) (c .size .given .1)
 
 array-share-prefix-text : tie.Need-array-share-prefix-text
 array-share-prefix-text c = size-fits (c .before)
@@ -62,10 +67,9 @@ run-spec =
     (tie.spec
     slice-aggregate-read-full
     read-full-requires
-    array-share-prefix-input
-    slice-aggregate-report
-    slice-aggregate-report-2
-    report-requires
+    slice-aggregate-report-all
+    slice-aggregate-report-all-2
+    report-all-requires
     enum-known-size
     enum-told
     returns
