@@ -13,10 +13,10 @@ use Rattle.reason.specs.Order.{check, firstOf}
 use Rattle.reason.proofs.OrderLaws.{accepted-only-if, skip, stop, none-left}
 use Rattle.positions.specs.Map.{mapSize}
 use Rattle.reception.specs.Reception.{Reception, Piece, wrongLength, shortSpace}
-use Rattle.reception.specs.Adding.{ofPiece, ofReception, agrees, newIn}
+use Rattle.reception.specs.Adding.{ofReception, agrees}
 use Rattle.reception.specs.Opening.{cleared, openingChecks, opening, Opens}
-use Rattle.reception.specs.Taking.{taking}
-use Rattle.reception.specs.Joining.{joining}
+use Rattle.reception.specs.Taking.{disagrees, taking, takenNew}
+use Rattle.reception.specs.Joining.{joining, joinedNew}
 use Rattle.reception.specs.Holes.{holeStart, holeFrom}
 use Rattle.reception.specs.Listing.{listing}
 
@@ -83,7 +83,7 @@ module _ (s : Reception) (x : Piece) where
             ∙ stop 10 _ _ (lt-ltb (s .length) (x .offset + length (x .bytes)) h)
 
         module _ (fits : x .offset + length (x .bytes) ≤ s .length) where
-          last : taking s x ≡ firstOf (check (not (agrees s (ofPiece x))) 11 ∷ []) (newIn s (ofPiece x))
+          last : taking s x ≡ firstOf (check (disagrees s x) 11 ∷ []) (takenNew s x)
           unfolding taking
           last =
               skip 7 _ _ right
@@ -91,11 +91,11 @@ module _ (s : Reception) (x : Piece) where
               ∙ skip 9 _ _ (ap not (eq-eqb (s .number) (x .number) same))
               ∙ skip 10 _ _ (le-ltb (s .length) (x .offset + length (x .bytes)) fits)
 
-          pub takes-11 : agrees s (ofPiece x) ≡ false → taking s x ≡ refused 11
-          takes-11 e = last ∙ stop 11 _ _ (ap not e)
+          pub takes-11 : disagrees s x ≡ true → taking s x ≡ refused 11
+          takes-11 e = last ∙ stop 11 _ _ e
 
-          pub takes : agrees s (ofPiece x) ≡ true → taking s x ≡ accepted (newIn s (ofPiece x))
-          takes e = last ∙ skip 11 _ _ (ap not e) ∙ none-left _
+          pub takes : disagrees s x ≡ false → taking s x ≡ accepted (takenNew s x)
+          takes e = last ∙ skip 11 _ _ e ∙ none-left _
 
 -- ---- joining
 module _ (s t : Reception) where
@@ -114,14 +114,14 @@ module _ (s t : Reception) where
       joins-9 e = skip 7 _ _ right ∙ skip 12 _ _ room ∙ stop 9 _ _ (ap not e)
 
       module _ (same : (eqb (s .number) (t .number) && eqb (s .length) (t .length)) ≡ true) where
-        rest : joining s t ≡ firstOf (check (not (agrees s (ofReception t))) 11 ∷ []) (newIn s (ofReception t))
+        rest : joining s t ≡ firstOf (check (not (agrees s (ofReception t))) 11 ∷ []) (joinedNew s t)
         unfolding joining
         rest = skip 7 _ _ right ∙ skip 12 _ _ room ∙ skip 9 _ _ (ap not same)
 
         pub joins-11 : agrees s (ofReception t) ≡ false → joining s t ≡ refused 11
         joins-11 e = rest ∙ stop 11 _ _ (ap not e)
 
-        pub joins : agrees s (ofReception t) ≡ true → joining s t ≡ accepted (newIn s (ofReception t))
+        pub joins : agrees s (ofReception t) ≡ true → joining s t ≡ accepted (joinedNew s t)
         joins e = rest ∙ skip 11 _ _ (ap not e) ∙ none-left _
 
 -- ---- listing

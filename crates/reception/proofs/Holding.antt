@@ -206,7 +206,7 @@ module _ (number l : ℕ) (file : List ℕ) (ok : wrongLength l ≡ false) (S : 
     fitting-is-taken =
         takes s x (length-right number l file S s h ok) (space-enough number l file S s h) same-number (let e =
         ends-inside in let f = h .sized in omega (arith, e, f))
-        (offer-agrees number l file S s h (ofPiece x) below-end file-bytes)
+        (ap not (offer-agrees number l file S s h (ofPiece x) below-end file-bytes))
 
     fitting-holds : HoldsOf number l file (λ p. S p || covers number l x p) (taken s x)
     fitting-holds =

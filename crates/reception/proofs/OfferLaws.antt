@@ -44,6 +44,10 @@ module _ (s : Reception) (o : Offer) (answer : Answer ℕ) (map buffer : List �
   pub adds-accepted : (n : ℕ) → answer ≡ accepted n → map ≡ mapWith s o → buffer ≡ bufferWith s o → Adds s o answer (Accepted n) map buffer
   adds-accepted n e m b = rw e record { answers = refl; leaves-map = m; leaves-buffer = b }
 
+  -- .. where what is answered is the count of the definition
+  pub adds-counted : (k n : ℕ) → answer ≡ accepted k → n ≡ k → map ≡ mapWith s o → buffer ≡ bufferWith s o → Adds s o answer (Accepted n) map buffer
+  adds-counted k n e c m b = adds-accepted n (e ∙ ap accepted (sym c)) m b
+
 -- ---- what is not offered, and what it leaves
 pub piece-below : (x : Piece) (l p : ℕ) → x .offset + length (x .bytes) ≤ l → l ≤ p → offered (ofPiece x) p ≡ false
 piece-below x l p ends g = ap (λ (w : Bool). w && true) (behind-span (x .offset) (length (x .bytes)) p (omega arith))

@@ -7,7 +7,6 @@ use mathlib.Core.List.{List}
 use Prim.Native.Nat.{ℕ, _+_, _-_, _*_, _%_, _<_}
 use lib.Dec.{eqb, leb}
 use lib.ListN.{length}
-use Rattle.octets.specs.Runs.{putIn}
 use Rattle.octets.specs.Numbers.{byteAt, AllBytes}
 use Rattle.positions.specs.Spans.{within, count}
 use Rattle.positions.specs.Map.{isSet, held}
@@ -55,9 +54,3 @@ pub record MapRun (map : List ℕ) (has : ℕ → Bool) (p n : ℕ) (map′ : Li
 pub record BufferRun (new : ℕ → Bool) (from buffer : List ℕ) (p n : ℕ) (buffer′ : List ℕ) : Type 0 where
   pub long : length buffer′ ≡ length buffer
   pub bytes : (q : ℕ) → q < length buffer → byteAt buffer′ q ≡ cond (within p n q && new q) (byteAt from q) (byteAt buffer q)
-
--- Where a piece agrees, its positions are now held and its bytes written, and r of the positions were not held before; where it does
--- not, nothing has changed.
-pub record AllOrNothing (map buffer : List ℕ) (at : ℕ) (piece : List ℕ) (agrees : Bool) (map′ buffer′ : List ℕ) (r : ℕ) : Type 0 where
-  pub all : agrees ≡ true → MapRun map (λ q. true) at (length piece) map′ r × (buffer′ ≡ putIn buffer at piece)
-  pub nothing : agrees ≡ false → (map′ ≡ map) × (buffer′ ≡ buffer)

@@ -18,9 +18,13 @@ joiningChecks s t =
     check (not (eqb (s .number) (t .number) && eqb (s .length) (t .length))) 9 ∷
     check (not (agrees s (ofReception t))) 11 ∷ []
 
--- the answer: the count of positions that only the second holds, or the reason
+-- the count of positions that only the second holds
+abbrev pub joinedNew : Reception → Reception → ℕ
+joinedNew s t = newIn s (ofReception t)
+
+-- the answer: that count, or the reason
 unfoldable pub joining : Reception → Reception → Answer ℕ
-joining s t = firstOf (joiningChecks s t) (newIn s (ofReception t))
+joining s t = firstOf (joiningChecks s t) (joinedNew s t)
 
 -- the first reception afterwards; the second is unchanged
 abbrev pub joined : Reception → Reception → Reception

@@ -1,6 +1,6 @@
 -- Taking a piece in (01, "Reception"). That the frame was a piece is read before, and has its own reasons.
 -- Assumes nothing.
-use mathlib.Core.Bool.{not}
+use mathlib.Core.Bool.{Bool, not}
 use mathlib.Core.List.{List, [], _∷_}
 use Prim.Native.Nat.{ℕ, _+_}
 use lib.Dec.{ltb, eqb}
@@ -11,6 +11,10 @@ use Rattle.reception.specs.Reception.{Reception, Piece, wrongLength, sho
 use Rattle.reception.specs.Adding.{ofPiece, agrees, newIn, after, Adds}
 use Rattle.reception.specs.declared.Added.{Added}
 
+-- reason 11: the piece differs from what is held
+abbrev pub disagrees : Reception → Piece → Bool
+disagrees s x = not (agrees s (ofPiece x))
+
 -- "Taking in a piece: .. 7 (L), 12, 9, 10, 11"; the frame's reasons come before
 abbrev pub takingChecks : Reception → Piece → List Check
 takingChecks s x =
@@ -18,11 +22,15 @@ takingChecks s x =
     check (shortSpace (s .length) (s .map) (s .buffer)) 12 ∷
     check (not (eqb (s .number) (x .number))) 9 ∷
     check (ltb (s .length) (x .offset + length (x .bytes))) 10 ∷
-    check (not (agrees s (ofPiece x))) 11 ∷ []
+    check (disagrees s x) 11 ∷ []
 
--- the answer: the count of newly held positions, or the reason
+-- the count of newly held positions
+abbrev pub takenNew : Reception → Piece → ℕ
+takenNew s x = newIn s (ofPiece x)
+
+-- the answer: that count, or the reason
 unfoldable pub taking : Reception → Piece → Answer ℕ
-taking s x = firstOf (takingChecks s x) (newIn s (ofPiece x))
+taking s x = firstOf (takingChecks s x) (takenNew s x)
 
 -- the reception afterwards
 abbrev pub taken : Reception → Piece → Reception

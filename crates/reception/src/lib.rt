@@ -93,12 +93,10 @@ pub fn take(
     if l - piece.len() < at {
         return Added::Refused(10);
     }
-    let agrees = pieces::agree(map, buffer, at, piece);
-    let new = pieces::write(map, buffer, at, piece, agrees);
-    if agrees {
-        return Added::Accepted(new);
+    if !pieces::agree(map, buffer, at, piece) {
+        return Added::Refused(11);
     }
-    Added::Refused(11)
+    Added::Accepted(pieces::write(map, buffer, at, piece))
 }
 
 // Joins a second reception into a first, and answers how many positions only the second held; refuses 7

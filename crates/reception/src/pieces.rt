@@ -5,9 +5,10 @@ ghost use mathlib.Core.Path.{_≡_};
 ghost use mathlib.Core.Bool.{true};
 ghost use Prim.Native.Nat.{_+_, _*_, _/_, _≤_, _<_};
 ghost use lib.ListN.{length};
+ghost use Rattle.octets.specs.Runs.{putIn};
 ghost use Rattle.positions.specs.Spans.{every};
 ghost use Rattle.reception.specs.Reception.{longest};
-ghost use Rattle.reception.specs.Inner.{pieceAgrees, spanAt, MapRun, AllOrNothing};
+ghost use Rattle.reception.specs.Inner.{pieceAgrees, spanAt, MapRun};
 
 // Whether the piece, put at a position, agrees with every byte that is held. A map byte
 // is looked at once.
@@ -89,15 +90,12 @@ fn hold(map: &mut [u8], at: usize, n: usize) -> u32
     new
 }
 
-// All or nothing: where the piece agrees, its positions become held and its bytes are written, and the
-// answer is how many were not held; where it does not, nothing changes.
-pub(crate) fn write(map: &mut [u8], buffer: &mut [u8], at: usize, piece: &[u8], agrees: bool) -> u32
+// Writes the bytes of a piece, and its positions become held; how many were not.
+pub(crate) fn write(map: &mut [u8], buffer: &mut [u8], at: usize, piece: &[u8]) -> u32
     requires { ⌜ (at + length (now piece) ≤ longest) × (at + length (now piece) ≤ length (now map) * 8) × (at + length (now piece) ≤ length (now buffer)) ⌝ }
-    ensures { λ r. ⌜ AllOrNothing (now (map .entry)) (now (buffer .entry)) at (now (piece .entry)) agrees (now (map .exit)) (now (buffer .exit)) r ⌝ }
+    ensures { λ r. ⌜ MapRun (now (map .entry)) (λ q. true) at (length (now (piece .entry))) (now (map .exit)) r ⌝ }
+    ensures { λ r. ⌜ now (buffer .exit) ≡ putIn (now (buffer .entry)) at (now (piece .entry)) ⌝ }
 {
-    if !agrees {
-        return 0;
-    }
     octets::put(buffer, at, piece);
     hold(map, at, piece.len())
 }

@@ -16,24 +16,27 @@ use Rattle.positions.specs.Map.{held, mapSize}
 use Rattle.reception.specs.Reception.{longest, Reception, wrongLength, shortSpace}
 use Rattle.reception.specs.Adding.{ofReception, agreesAt, agrees, newIn, Adds}
 use Rattle.reception.specs.Inner.{MapRun, BufferRun}
-use Rattle.reception.specs.Joining.{joining}
+use Rattle.reception.specs.Joining.{joining, joinedNew}
 use Rattle.reception.specs.declared.Added.the-variants.{Accepted, Refused}
 use Rattle.reception.proofs.MarkLaws.{run-map}
-use Rattle.reception.proofs.OfferLaws.{right-length, enough-space, adds-refused, adds-accepted, run-buffer}
+use Rattle.reception.proofs.OfferLaws.{right-length, enough-space, adds-refused, adds-counted, run-buffer}
 use Rattle.reception.proofs.GivenReasons.{joins-7, joins-12, joins-9, joins-11, joins}
 use Rattle.reception.proofs.join.Statement.{statement}
 use Rattle.reception.proofs.join.Tie as tie
 
 -- adding what the second holds below its length, where the lengths are the same
-adds-joined : (s t : Reception) (l r : ℕ) (map buffer : List ℕ) → l ≡ t .length → joining s t ≡ accepted (newIn s (ofReception t))
-    → MapRun (s .map) (held (t .map)) 0 l map r
-    → BufferRun (λ q. held (t .map) q && not (held (s .map) q)) (t .buffer) (s .buffer) 0 l buffer → Adds s (ofReception t) (joining s t) (Accepted r) map buffer
-adds-joined s t l r map buffer e is run copied =
-    adds-accepted s (ofReception t) (joining s t) map buffer r (is ∙ ap accepted (sym (more .new))) (run-map (s .map) (held (t .map)) 0 (t .length) map r more)
-    (run-buffer (λ q. held (t .map) q && not (held (s .map) q)) (t .buffer) (s .buffer) 0 (t .length) buffer (rw e at copied))
-  where
-    more : MapRun (s .map) (held (t .map)) 0 (t .length) map r
-    more = rw e at run
+module _ (s t : Reception) (l r : ℕ) (map buffer : List ℕ) (e : l ≡ t .length) (run : MapRun (s .map) (held (t .map)) 0 l map r) where
+  more : MapRun (s .map) (held (t .map)) 0 (t .length) map r
+  more = rw e at run
+
+  counted : r ≡ newIn s (ofReception t)
+  counted = more .new
+
+  adds-joined : (n : ℕ) → joining s t ≡ accepted (joinedNew s t) → n ≡ joinedNew s t
+      → BufferRun (λ q. held (t .map) q && not (held (s .map) q)) (t .buffer) (s .buffer) 0 l buffer → Adds s (ofReception t) (joining s t) (Accepted n) map buffer
+  adds-joined n is new copied =
+      adds-counted s (ofReception t) (joining s t) map buffer (joinedNew s t) n is new (run-map (s .map) (held (t .map)) 0 (t .length) map r more)
+      (run-buffer (λ q. held (t .map) q && not (held (s .map) q)) (t .buffer) (s .buffer) 0 (t .length) buffer (rw e at copied))
 
 wrong-length-requires : tie.Need-wrong-length-requires
 wrong-length-requires c κs = search needs
@@ -157,9 +160,11 @@ returns-5 c =
     let f = c .before .before .before .before .before .before .before .before .before .before .before in
     let e = f .before in
     let d = D e in
-    adds-joined (s (S d)) (t (S d)) (S d .args .length) (c .before .before .before .before .add .result) _ _ (lengths f)
+    let done = c .before .before .before .before .add .ensures in
+    let new = counted (s (S d)) (t (S d)) (S d .args .length) _ _ (s (S d) .buffer) (lengths f) (done .0) in
+    adds-joined (s (S d)) (t (S d)) (S d .args .length) _ _ _ (lengths f) (done .0) _
     (joins (s (S d)) (t (S d)) (right d) (room e) (same f) (agreed f ∙ sym (c .before .before .before .before .before .before .before .before .agree .ensures) ∙ not-false (c .before .before .before .before .before .before .before .before .agree .result) (c .before .before .before .before .before .before .before .if4 .left)))
-    (c .before .before .before .before .add .ensures .0) (c .before .before .before .before .add .ensures .1)
+    (search (needs, new)) (done .1)
 
 pub join-spec : {M : Type 1} → statement M
 join-spec =

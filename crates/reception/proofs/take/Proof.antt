@@ -1,19 +1,21 @@
 -- `reception::take` meets its contract: the tests in their order, then the positions are marked and the bytes written.
 -- Assumes nothing.
-use mathlib.Core.Path.{_≡_, refl, sym, ap, _∙_}
-use mathlib.Core.Bool.{true, false}
+use mathlib.Core.Path.{_≡_, refl, sym, _∙_}
+use mathlib.Core.Bool.{Bool, true, false, not, _&&_}
 use Prim.Native.Nat.{ℕ, _+_, _≤_}
 use native.Mathlib.Omega.{arith}
 use lib.ListN.{length}
+use borrow.Author.Tests.{not-false}
 use borrow.Author.Needs.{needs}
 use Rattle.positions.specs.Map.{mapSize}
 use Rattle.reception.specs.Reception.{longest, Reception, Piece, wrongLength, shortSpace}
-use Rattle.reason.specs.Answer.{accepted, refused}
+use Rattle.reason.proofs.Bools.{and-left}
+use Rattle.reason.specs.Answer.{refused}
 use Rattle.reception.specs.Adding.{ofPiece, agrees, Adds}
 use Rattle.reception.specs.Taking.{taking}
 use Rattle.reception.specs.declared.Added.the-variants.{Refused}
 use Rattle.reception.proofs.MarkLaws.{run-map}
-use Rattle.reception.proofs.OfferLaws.{right-length, enough-space, adds-refused, adds-accepted, piece-agrees, piece-stored}
+use Rattle.reception.proofs.OfferLaws.{right-length, enough-space, adds-refused, adds-counted, piece-agrees, piece-stored}
 use Rattle.reception.proofs.GivenReasons.{takes-7, takes-12, takes-9, takes-10, takes-11, takes}
 use Rattle.reception.proofs.take.Statement.{statement}
 use Rattle.reception.proofs.take.Tie as tie
@@ -120,12 +122,6 @@ agree-requires c κs =
 agreed : (c : tie.After-agree) → agrees (s (T (c .before .before .before))) (ofPiece (x (T (c .before .before .before)))) ≡ c .agree .result
 agreed c = sym (piece-agrees (s (T (c .before .before .before))) (x (T (c .before .before .before)))) ∙ sym (c .agree .ensures)
 
-write-requires : tie.Need-write-requires
-write-requires c κs =
-    let w = enough (c .before .before .before .before .before .before .before .before) in
-    let f = fits (c .before .before .before .before .before) in
-    (omega (arith, w, f), omega (arith, w, f), omega (arith, w, f))
-
 same-length-9 : tie.Need-same-length-9
 same-length-9 c = search needs
 
@@ -134,16 +130,19 @@ same-length-10 c = search needs
 
 returns-6 : tie.Need-returns-6
 returns-6 c =
-    let f = c .before .before .before .before .before .before .before .before .before .before .before in
+    let f = c .before .before .before .before in
+    let e = f .before .before .before in
     let k = T f in
+    let agree = agreed (c .before) in
+    let told = c .if6 .taken in
+    refuses k 11 (takes-11 (s k) (x k) (right (D e)) (room e) (f .before .before .if3 .left) (fits f) (search (needs, agree, told)))
+
+write-requires : tie.Need-write-requires
+write-requires c κs =
+    let f = c .before .before .before .before .before .before in
     let w = enough (f .before .before .before) in
     let e = fits f in
-    let agree = agreed (c .before .before .before .before .before .before .before .before) ∙ c .if6 .taken in
-    let done = c .before .before .before .before .before .write .ensures .all (simp (c .if6 .taken)) in
-    adds-accepted (s k) (ofPiece (x k)) (taking (s k) (x k)) _ _ (c .before .before .before .before .before .write .result)
-    (takes (s k) (x k) (right (D (f .before .before .before))) (room (f .before .before .before)) (f .before .before .if3 .left) e agree ∙ ap accepted (sym (done .0 .new)))
-    (run-map (s k .map) (λ q. true) (x k .offset) (length (x k .bytes)) _ _ (done .0))
-    (done .1 ∙ piece-stored (s k) (x k) agree (omega (arith, w, e)))
+    (omega (arith, w, e), omega (arith, w, e), omega (arith, w, e))
 
 same-length-11 : tie.Need-same-length-11
 same-length-11 c = search needs
@@ -151,14 +150,27 @@ same-length-11 c = search needs
 same-length-12 : tie.Need-same-length-12
 same-length-12 c = search needs
 
+-- a test that passes, whatever is asked beside the agreement
+alone : (a b : Bool) → not (a && b) ≡ false → a ≡ true
+alone a b e = and-left a b (not-false (a && b) e)
+
 returns-7 : tie.Need-returns-7
 returns-7 c =
-    let f = c .before .before .before .before .before .before .before .before .before .before .before in
+    let a = c .before .before .before .before .before .before .before .before in
+    let f = a .before .before .before in
+    let e = f .before .before .before in
     let k = T f in
-    let kept = c .before .before .before .before .before .write .ensures .nothing (simp (c .if6 .left)) in
-    adds-refused (s k) (ofPiece (x k)) (taking (s k) (x k)) _ _ 11
-    (takes-11 (s k) (x k) (right (D (f .before .before .before))) (room (f .before .before .before)) (f .before .before .if3 .left) (fits f) (agreed (c .before .before .before .before .before .before .before .before) ∙ c .if6 .left))
-    (kept .0) (kept .1)
+    let w = enough e in
+    let z = fits f in
+    let agree = agreed a in
+    let told = c .before .before .before .before .before .before .before .if6 .left in
+    let agree-true : agrees (s k) (ofPiece (x k)) ≡ true = agree ∙ search (not-false, alone, told) in
+    let done = c .before .before .before .before .write .ensures in
+    let new = done .0 .new in
+    adds-counted (s k) (ofPiece (x k)) (taking (s k) (x k)) _ _ _ _
+    (takes (s k) (x k) (right (D e)) (room e) (f .before .before .if3 .left) z (search (needs, agree, told))) (search (needs, new))
+    (run-map (s k .map) (λ q. true) (x k .offset) (length (x k .bytes)) _ _ (done .0))
+    (done .1 ∙ piece-stored (s k) (x k) agree-true (omega (arith, w, z)))
 
 pub take-spec : {M : Type 1} → statement M
 take-spec =
@@ -181,10 +193,10 @@ take-spec =
     same-length-8
     returns-5
     agree-requires
-    write-requires
     same-length-9
     same-length-10
     returns-6
+    write-requires
     same-length-11
     same-length-12
     returns-7)
