@@ -21,6 +21,7 @@ use Rattle.header.specs.Items.{mandatoryItems, knownItems, decisionOf, a
 
 -- what a step says that finds an item: it stands at the cursor, and the next cursor is behind it, within the list
 pub record Next (s : List ℕ) (at : ℕ) (i : Item) (c : Cursor) : Type 0 where
+  pub means : i .meaning ≡ decisionOf (i .id) .meaning
   pub starts : i .start ≡ at + 3
   pub next : c .at ≡ at + 3 + i .size
   pub within : c .at ≤ length s
@@ -75,6 +76,7 @@ module _ (s : List ℕ) (at : ℕ) where
       let next : at + 3 + Count ≡ c .at = ap (λ (d : Cursor). d .at) (r .2) in
       let room : at + 3 + Count ≤ length s = ltb-false (length s) (at + 3 + Count) (r .0) in
       record {
+        means = sym (ap (λ (j : Item). j .meaning) (r .1)) ∙ ap (λ (j : Item). decisionOf (j .id) .meaning) (r .1);
         starts = omega arith;
         next = omega arith;
         within = omega arith;

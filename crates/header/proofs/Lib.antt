@@ -1,4 +1,5 @@
 pub mod ItemLaws
+pub mod MeaningLaws
 pub mod TableLaws
 pub mod NoteLaws
 pub mod HeaderLaws

@@ -3,24 +3,26 @@
 use mathlib.Core.Path.{_≡_, refl, sym, ap, ap₂, _∙_}
 use mathlib.Core.Bool.{Bool, true, false, cond, _&&_}
 use mathlib.Core.List.{List, [], _∷_}
-use mathlib.Core.Logic.{⊎-elim}
 use Prim.Native.Nat.{ℕ, zero, suc, _+_, _%_, _≤_, _<_}
 use native.Mathlib.Nat.{zero-add}
 use native.Mathlib.Omega.{arith}
-use lib.Dec.{ltb, eqb}
-use lib.ListN.{length, getD, take, set, replicate, length-set, List·getD-eq-default}
+use lib.Dec.{eqb}
+use lib.ListN.{length, getD, take, replicate, length-set}
 use lib.Seq.{getD-set-same, getD-set-other}
-use borrow.Author.Tests.{lt-ltb, eqb-true, eqb-false}
-use Rattle.reason.proofs.Bools.{and-right, le-or-lt}
+use borrow.Author.Tests.{eqb-true, eqb-false}
+use Rattle.reason.proofs.Bools.{and-right}
 use Rattle.octets.specs.Runs.{putIn}
+use Rattle.header.specs.declared.Meaning.{Meaning}
+use Rattle.header.specs.declared.Meaning.the-variants.{FileName, FileExtension, HeaderSum, UploadTime}
 use Rattle.header.specs.declared.Item.{Item}
 use Rattle.header.specs.declared.Cursor.{Cursor}
 use Rattle.header.specs.declared.Step.{Step}
 use Rattle.header.specs.declared.Step.the-variants.{Found, Ended, Broken}
-use Rattle.header.specs.Items.{stepAt, Items, item, itemsFrom, items, countOf, lastOf, startOf, sizeOf, endOf}
+use Rattle.header.specs.Items.{mandatoryItems, knownItems, decisionOf, stepAt, Items, item, itemsFrom, items, countOf, lastOf, startOf, sizeOf, endOf}
 use Rattle.header.specs.Header.{headerLength, mandatory, every, once, sumOf, headerSum, valuesBy, headerOf, allOnce}
-use Rattle.header.specs.Notes.{places, none, noteOf, withNote, Noted}
-use Rattle.header.proofs.TableLaws.{below, each, every-same, sum-listed}
+use Rattle.header.specs.Notes.{placeOf, places, none, noteOf, byId, withNote, Placed, Noted}
+use Rattle.header.proofs.MeaningLaws.{place-below, same-place}
+use Rattle.header.proofs.TableLaws.{each, every-same, each-placed, sum-listed}
 use Rattle.header.proofs.ItemLaws.{Next, items-by, found-by-told, ended-by-told, last-more}
 
 -- a list of notes after one is changed: its length, and what stands at each id
@@ -29,36 +31,31 @@ none-at zero k = refl
 none-at (suc n) zero = refl
 none-at (suc n) (suc k) = none-at n k
 
-module _ (notes : List ℕ) (long : length notes ≡ places) (id v : ℕ) where
-  long-by : (b : Bool) → length (cond b (set notes id v) notes) ≡ places
-  long-by true = length-set notes id v ∙ long
-  long-by false = long
+module _ (notes : List ℕ) (long : length notes ≡ places) (m : Meaning) (v : ℕ) where
+  pub note-long : length (withNote notes m v) ≡ places
+  note-long = length-set notes (placeOf m) v ∙ long
 
-  pub note-long : length (withNote notes id v) ≡ places
-  note-long = long-by (ltb id places)
+  set-by : (k : ℕ) (b : Bool) → eqb (placeOf m) k ≡ b → getD (withNote notes m v) k 0 ≡ cond b v (getD notes k 0)
+  set-by k true e =
+      ap (λ (j : ℕ). getD (withNote notes m v) j 0) (sym (eqb-true (placeOf m) k e)) ∙ getD-set-same notes (placeOf m) v 0 (omega (arith, place-below m))
+  set-by k false e = getD-set-other notes (placeOf m) k v 0 (λ s. eqb-false (placeOf m) k e (sym s))
 
-  other-by : (k : ℕ) → (k ≡ id → ⊥) → (b : Bool) → getD (cond b (set notes id v) notes) k 0 ≡ noteOf notes k
-  other-by k d true = getD-set-other notes id k v 0 d
-  other-by k d false = refl
+  set-at : (k : ℕ) → getD (withNote notes m v) k 0 ≡ cond (eqb (placeOf m) k) v (getD notes k 0)
+  set-at k = set-by k (eqb (placeOf m) k) refl
 
-  note-by : (k : ℕ) → k < places → (b : Bool) → eqb id k ≡ b → getD (withNote notes id v) k 0 ≡ cond b v (noteOf notes k)
-  note-by k h true e =
-      let same : id ≡ k = eqb-true id k e in
-      ap (λ (b : Bool). getD (cond b (set notes id v) notes) k 0) (lt-ltb id places (omega arith))
-      ∙ ap (λ (j : ℕ). getD (set notes id v) j 0) (sym same)
-      ∙ getD-set-same notes id v 0 (omega arith)
-  note-by k h false e = other-by k (λ s. eqb-false id k e (sym s)) (ltb id places)
-
-  pub note-at : (k : ℕ) → k < places → getD (withNote notes id v) k 0 ≡ cond (eqb id k) v (noteOf notes k)
-  note-at k h = note-by k h (eqb id k) refl
+-- the note of an id after that of an item's meaning is changed
+pub note-at : (notes : List ℕ) → length notes ≡ places → (id v k : ℕ) → Placed k
+    → byId (withNote notes (decisionOf id .meaning) v) k ≡ cond (eqb id k) v (byId notes k)
+note-at notes long id v k h =
+    set-at notes long (decisionOf id .meaning) v (placeOf (decisionOf k .meaning)) ∙ ap (λ (b : Bool). cond b v (byId notes k)) (same-place id k h)
 
 -- what the notes say when the cursor is at a place: with the items from there on, what all items say
 pub record SoFar (s : List ℕ) (at : ℕ) (counts sizes starts : List ℕ) : Type 0 where
-  pub counted : (k : ℕ) → k < places → noteOf counts k + countOf (itemsFrom s at) k ≡ countOf (items s) k
-  pub sized : (k : ℕ) → k < places → lastOf (λ (i : Item). i .size) (noteOf sizes k) k (itemsFrom s at) ≡ sizeOf (items s) k
-  pub started : (k : ℕ) → k < places → lastOf (λ (i : Item). i .start) (noteOf starts k) k (itemsFrom s at) ≡ startOf (items s) k
-  pub few : (k : ℕ) → k < places → noteOf counts k ≤ at
-  pub within : (k : ℕ) → k < places → noteOf starts k + noteOf sizes k ≤ at
+  pub counted : (k : ℕ) → Placed k → byId counts k + countOf (itemsFrom s at) k ≡ countOf (items s) k
+  pub sized : (k : ℕ) → Placed k → lastOf (λ (i : Item). i .size) (byId sizes k) k (itemsFrom s at) ≡ sizeOf (items s) k
+  pub started : (k : ℕ) → Placed k → lastOf (λ (i : Item). i .start) (byId starts k) k (itemsFrom s at) ≡ startOf (items s) k
+  pub few : (k : ℕ) → getD counts k 0 ≤ at
+  pub within : (k : ℕ) → Placed k → byId starts k + byId sizes k ≤ at
   pub ending : endOf (itemsFrom s at) ≡ headerLength s
   pub counts-long : length counts ≡ places
   pub sizes-long : length sizes ≡ places
@@ -66,26 +63,21 @@ pub record SoFar (s : List ℕ) (at : ℕ) (counts sizes starts : List ℕ) : Ty
 
 -- before the first item
 pub before-all : (s : List ℕ) → SoFar s 2 none none none
-before-all s = record {
-  counted = λ k h. ap (λ (n : ℕ). n + countOf (items s) k) (none-at places k) ∙ zero-add (countOf (items s) k);
-  sized = λ k h. ap (λ (n : ℕ). lastOf (λ (i : Item). i .size) n k (items s)) (none-at places k);
-  started = λ k h. ap (λ (n : ℕ). lastOf (λ (i : Item). i .start) n k (items s)) (none-at places k);
-  few = λ k h. omega (arith, none-at places k);
-  within = λ k h. omega (arith, none-at places k);
-  ending = refl;
-  counts-long = refl;
-  sizes-long = refl;
-  starts-long = refl;
-}
+before-all s =
+    let zero-at : (k : ℕ) → byId none k ≡ 0 = λ k. none-at places (placeOf (decisionOf k .meaning)) in
+    record {
+      counted = λ k h. ap (λ (n : ℕ). n + countOf (items s) k) (zero-at k) ∙ zero-add (countOf (items s) k);
+      sized = λ k h. ap (λ (n : ℕ). lastOf (λ (i : Item). i .size) n k (items s)) (zero-at k);
+      started = λ k h. ap (λ (n : ℕ). lastOf (λ (i : Item). i .start) n k (items s)) (zero-at k);
+      few = λ k. omega (arith, none-at places k);
+      within = λ k h. omega (arith, zero-at k);
+      ending = refl;
+      counts-long = refl;
+      sizes-long = refl;
+      starts-long = refl;
+    }
 
 module _ (s : List ℕ) (at : ℕ) (counts sizes starts : List ℕ) (sofar : SoFar s at counts sizes starts) where
-  -- the count of an id, whatever the id, is no more than the place
-  pub count-few : (k : ℕ) → noteOf counts k ≤ at
-  count-few k =
-      ⊎-elim (λ (h : places ≤ k). let z : noteOf counts k ≡ 0 = List·getD-eq-default counts 0 (omega (arith, sofar .counts-long)) in omega arith)
-      (λ (h : k < places). sofar .few k h)
-      (le-or-lt places k)
-
   -- one item more
   module _ (r : Step) (i : Item) (c : Cursor) (told : r ≡ Found i c) (stepped : r ≡ stepAt s at) where
     here : itemsFrom s at ≡ item i (itemsFrom s (c .at))
@@ -94,53 +86,60 @@ module _ (s : List ℕ) (at : ℕ) (counts sizes starts : List ℕ) (sofar : SoF
     next : Next s at i c
     next = found-by-told s at told stepped
 
+    abbrev M : Meaning
+    M = decisionOf (i .id) .meaning
+
     abbrev Counts : List ℕ
-    Counts = withNote counts (i .id) (noteOf counts (i .id) + 1)
+    Counts = withNote counts M (noteOf counts M + 1)
 
     abbrev Sizes : List ℕ
-    Sizes = withNote sizes (i .id) (i .size)
+    Sizes = withNote sizes M (i .size)
 
     abbrev Starts : List ℕ
-    Starts = withNote starts (i .id) (i .start)
+    Starts = withNote starts M (i .start)
 
-    counted-by : (k : ℕ) (b : Bool) → eqb (i .id) k ≡ b → noteOf Counts k ≡ cond b (noteOf counts (i .id) + 1) (noteOf counts k)
-        → noteOf counts k + (cond b 1 0 + countOf (itemsFrom s (c .at)) k) ≡ countOf (items s) k
-        → noteOf Counts k + countOf (itemsFrom s (c .at)) k ≡ countOf (items s) k
-    counted-by k true e new old = let same : noteOf counts (i .id) ≡ noteOf counts k = ap (λ (j : ℕ). noteOf counts j) (eqb-true (i .id) k e) in omega arith
+    counted-by : (k : ℕ) (b : Bool) → eqb (i .id) k ≡ b → byId Counts k ≡ cond b (byId counts (i .id) + 1) (byId counts k)
+        → byId counts k + (cond b 1 0 + countOf (itemsFrom s (c .at)) k) ≡ countOf (items s) k
+        → byId Counts k + countOf (itemsFrom s (c .at)) k ≡ countOf (items s) k
+    counted-by k true e new old = let same : byId counts (i .id) ≡ byId counts k = ap (λ (j : ℕ). byId counts j) (eqb-true (i .id) k e) in omega arith
     counted-by k false e new old = omega arith
 
-    few-by : (k : ℕ) (b : Bool) → noteOf Counts k ≡ cond b (noteOf counts (i .id) + 1) (noteOf counts k) → noteOf counts k ≤ at
-        → noteOf Counts k ≤ c .at
-    few-by k true new old = omega (arith, next .next, count-few (i .id))
-    few-by k false new old = omega (arith, next .next)
+    few-by : (k : ℕ) (b : Bool) → getD Counts k 0 ≡ cond b (noteOf counts M + 1) (getD counts k 0) → getD Counts k 0 ≤ c .at
+    few-by k true new = omega (arith, next .next, sofar .few (placeOf M))
+    few-by k false new = omega (arith, next .next, sofar .few k)
 
-    within-by : (k : ℕ) (b : Bool) → noteOf Starts k ≡ cond b (i .start) (noteOf starts k) → noteOf Sizes k ≡ cond b (i .size) (noteOf sizes k)
-        → noteOf starts k + noteOf sizes k ≤ at → noteOf Starts k + noteOf Sizes k ≤ c .at
+    within-by : (k : ℕ) (b : Bool) → byId Starts k ≡ cond b (i .start) (byId starts k) → byId Sizes k ≡ cond b (i .size) (byId sizes k)
+        → byId starts k + byId sizes k ≤ at → byId Starts k + byId Sizes k ≤ c .at
     within-by k true x y old = omega (arith, next .next, next .starts)
     within-by k false x y old = omega (arith, next .next)
 
-    last-noted : (f : Item → ℕ) (notes : List ℕ) → length notes ≡ places → (k : ℕ) → k < places → (total : ℕ)
-        → lastOf f (noteOf notes k) k (itemsFrom s at) ≡ total
-        → lastOf f (noteOf (withNote notes (i .id) (f i)) k) k (itemsFrom s (c .at)) ≡ total
+    last-noted : (f : Item → ℕ) (notes : List ℕ) → length notes ≡ places → (k : ℕ) → Placed k → (total : ℕ)
+        → lastOf f (byId notes k) k (itemsFrom s at) ≡ total
+        → lastOf f (byId (withNote notes M (f i)) k) k (itemsFrom s (c .at)) ≡ total
     last-noted f notes long k h total old =
-        ap (λ (d : ℕ). lastOf f d k (itemsFrom s (c .at))) (note-at notes long (i .id) (f i) k h) ∙ last-more s at told stepped f (noteOf notes k) k ∙ old
+        ap (λ (d : ℕ). lastOf f d k (itemsFrom s (c .at))) (note-at notes long (i .id) (f i) k h) ∙ last-more s at told stepped f (byId notes k) k ∙ old
 
     pub one-more : SoFar s (c .at) Counts Sizes Starts
     one-more = record {
-      counted = λ k h. counted-by k (eqb (i .id) k) refl (note-at counts (sofar .counts-long) (i .id) _ k h) (ap (λ (is : Items). noteOf counts k + countOf is k) (sym here) ∙ sofar .counted k h);
+      counted = λ k h. counted-by k (eqb (i .id) k) refl (note-at counts (sofar .counts-long) (i .id) _ k h) (ap (λ (is : Items). byId counts k + countOf is k) (sym here) ∙ sofar .counted k h);
       sized = λ k h. last-noted (λ (j : Item). j .size) sizes (sofar .sizes-long) k h _ (sofar .sized k h);
       started = λ k h. last-noted (λ (j : Item). j .start) starts (sofar .starts-long) k h _ (sofar .started k h);
-      few = λ k h. few-by k (eqb (i .id) k) (note-at counts (sofar .counts-long) (i .id) _ k h) (sofar .few k h);
+      few = λ k. few-by k (eqb (placeOf M) k) (set-at counts (sofar .counts-long) M _ k);
       within = λ k h. within-by k (eqb (i .id) k) (note-at starts (sofar .starts-long) (i .id) _ k h) (note-at sizes (sofar .sizes-long) (i .id) _ k h) (sofar .within k h);
       ending = sym (ap endOf here) ∙ sofar .ending;
-      counts-long = note-long counts (sofar .counts-long) (i .id) _;
-      sizes-long = note-long sizes (sofar .sizes-long) (i .id) _;
-      starts-long = note-long starts (sofar .starts-long) (i .id) _;
+      counts-long = note-long counts (sofar .counts-long) M _;
+      sizes-long = note-long sizes (sofar .sizes-long) M _;
+      starts-long = note-long starts (sofar .starts-long) M _;
     }
 
-    -- the same for lists that are told to be those
-    pub one-more-by : (cs zs ts : List ℕ) → cs ≡ Counts → zs ≡ Sizes → ts ≡ Starts → SoFar s (c .at) cs zs ts
-    one-more-by cs zs ts x y z = rw (x, y, z) one-more
+    -- the same for lists that are told to be those, by the item's own meaning
+    pub one-more-by : (cs zs ts : List ℕ) → cs ≡ withNote counts (i .meaning) (noteOf counts (i .meaning) + 1) → zs ≡ withNote sizes (i .meaning) (i .size)
+        → ts ≡ withNote starts (i .meaning) (i .start) → SoFar s (c .at) cs zs ts
+    one-more-by cs zs ts x y z = carry (i .meaning) (next .means) cs zs ts x y z
+      where
+        carry : (m : Meaning) → m ≡ M → (cs zs ts : List ℕ) → cs ≡ withNote counts m (noteOf counts m + 1) → zs ≡ withNote sizes m (i .size)
+            → ts ≡ withNote starts m (i .start) → SoFar s (c .at) cs zs ts
+        carry m e cs zs ts x y z = rw (x, y, z, e) one-more
 
   -- where the walk stops: no item is left, so the notes say it all
   stopped : (rest : Items) (end : ℕ) → itemsFrom s at ≡ rest → endOf rest ≡ end → ((k : ℕ) → countOf rest k ≡ 0)
@@ -148,8 +147,8 @@ module _ (s : List ℕ) (at : ℕ) (counts sizes starts : List ℕ) (sofar : SoF
   stopped rest end here ends none-left last reached inside = record {
     ends = sym ends ∙ sym (ap endOf here) ∙ sofar .ending;
     counted = λ k h. omega (arith, none-left k, ap (λ (is : Items). countOf is k) here, sofar .counted k h);
-    sized = λ k h. sym (last _ _ k) ∙ ap (lastOf (λ (i : Item). i .size) (noteOf sizes k) k) (sym here) ∙ sofar .sized k h;
-    started = λ k h. sym (last _ _ k) ∙ ap (lastOf (λ (i : Item). i .start) (noteOf starts k) k) (sym here) ∙ sofar .started k h;
+    sized = λ k h. sym (last _ _ k) ∙ ap (lastOf (λ (i : Item). i .size) (byId sizes k) k) (sym here) ∙ sofar .sized k h;
+    started = λ k h. sym (last _ _ k) ∙ ap (lastOf (λ (i : Item). i .start) (byId starts k) k) (sym here) ∙ sofar .started k h;
     within = λ z k h. omega (arith, reached z, sofar .within k h);
     inside = inside;
   }
@@ -165,13 +164,13 @@ module _ (s : List ℕ) (at : ℕ) (counts sizes starts : List ℕ) (sofar : SoF
 
 -- the notes of all items say what the definitions say
 module _ (s : List ℕ) (end : ℕ) (counts sizes starts : List ℕ) (noted : Noted s end counts sizes starts) where
-  pub once-by-notes : every (once (noteOf counts) (noteOf sizes)) mandatory ≡ allOnce s
+  pub once-by-notes : every (once (byId counts) (byId sizes)) mandatory ≡ allOnce s
   once-by-notes =
-      every-same (once (noteOf counts) (noteOf sizes)) (once (countOf (items s)) (sizeOf (items s))) mandatory
-      (λ p m. ap₂ (λ (x y : ℕ). eqb x 1 && eqb y (p .size)) (noted .counted (p .id) (below p m)) (noted .sized (p .id) (below p m)))
+      every-same (once (byId counts) (byId sizes)) (once (countOf (items s)) (sizeOf (items s))) mandatory
+      (λ p m. ap₂ (λ (x y : ℕ). eqb x 1 && eqb y (p .size)) (noted .counted (p .id) (each-placed p m)) (noted .sized (p .id) (each-placed p m)))
 
-  pub values-by-notes : valuesBy (noteOf counts) (noteOf starts) end s ≡ headerOf s
-  unfolding headerOf
+  pub values-by-notes : valuesBy (byId counts) (byId starts) end s ≡ headerOf s
+  unfolding headerOf decisionOf knownItems mandatoryItems
   values-by-notes =
       rw (
         noted .ends,
@@ -190,15 +189,21 @@ module _ (s : List ℕ) (end : ℕ) (counts sizes starts : List ℕ) (noted : No
         noted .started 0x12 (omega arith),
       )
 
-  pub sum-by-notes : sumOf (putIn (take end s) (noteOf starts 0x0A) (0 ∷ 0 ∷ [])) % 65536 ≡ headerSum s
-  unfolding headerSum
-  sum-by-notes = ap₂ (λ (e a : ℕ). sumOf (putIn (take e s) a (0 ∷ 0 ∷ [])) % 65536) (noted .ends) (noted .started 0x0A (omega arith))
+  pub uploads-by-notes : noteOf counts UploadTime ≡ countOf (items s) 0x12
+  unfolding decisionOf knownItems mandatoryItems
+  uploads-by-notes = noted .counted 0x12 (omega arith)
 
-  -- where no item breaks off, every item that was met is in the header, and item 0A has two bytes
-  pub in-header : 0 < end → (id : ℕ) → id < places → noteOf starts id ≤ length s
-  in-header h id b = omega (arith, noted .within h id b, noted .inside)
+  pub sum-by-notes : (at : ℕ) → at ≡ noteOf starts HeaderSum → sumOf (putIn (take end s) at (0 ∷ 0 ∷ [])) % 65536 ≡ headerSum s
+  unfolding headerSum decisionOf knownItems mandatoryItems
+  sum-by-notes at is = ap₂ (λ (e a : ℕ). sumOf (putIn (take e s) a (0 ∷ 0 ∷ [])) % 65536) (noted .ends) (is ∙ noted .started 0x0A (omega arith))
 
-  pub sum-in-header : 0 < end → every (once (noteOf counts) (noteOf sizes)) mandatory ≡ true → noteOf starts 0x0A + 2 ≤ end
+  -- where no item breaks off, the items that were met are in the header, and item 0A has two bytes
+  pub names-in-header : 0 < end → (noteOf starts FileName ≤ length s) × (noteOf starts FileExtension ≤ length s)
+  unfolding decisionOf knownItems mandatoryItems
+  names-in-header h = (omega (arith, noted .within h 0x02 (omega arith), noted .inside), omega (arith, noted .within h 0x03 (omega arith), noted .inside))
+
+  pub sum-in-header : 0 < end → every (once (byId counts) (byId sizes)) mandatory ≡ true → noteOf starts HeaderSum + 2 ≤ end
+  unfolding decisionOf knownItems mandatoryItems
   sum-in-header h e =
-      let two : noteOf sizes 0x0A ≡ 2 = eqb-true _ _ (and-right (eqb (noteOf counts 0x0A) 1) _ (each (once (noteOf counts) (noteOf sizes)) mandatory e (record { id = 0x0A; size = 2 }) sum-listed)) in
+      let two : noteOf sizes HeaderSum ≡ 2 = eqb-true _ _ (and-right (eqb (noteOf counts HeaderSum) 1) _ (each (once (byId counts) (byId sizes)) mandatory e (record { id = 0x0A; size = 2 }) sum-listed)) in
       omega (arith, noted .within h 0x0A (omega arith))

@@ -11,9 +11,10 @@ use lib.ListN.{length, getD}
 use borrow.Author.Tests.{ltb-true}
 use Rattle.reason.proofs.Bools.{and-left, and-right, and-both}
 use Rattle.header.specs.declared.Pair.{Pair}
-use Rattle.header.specs.Items.{mandatoryItems}
+use Rattle.header.specs.declared.Meaning.the-variants.{Other}
+use Rattle.header.specs.Items.{mandatoryItems, knownItems, decisionOf}
 use Rattle.header.specs.Header.{mandatory, every}
-use Rattle.header.specs.Notes.{places}
+use Rattle.header.specs.Notes.{placeOf, Placed}
 
 -- every pair passes a test exactly if each pair in the list does
 pub each : (test : Pair → Bool) (ps : List Pair) → every test ps ≡ true → (p : Pair) → List·Memᴰ p ps → test p ≡ true
@@ -36,17 +37,20 @@ in-list [] d k h = absurd (omega arith)
 in-list (p ∷ ps) d zero h = List·Memᴰ·head refl
 in-list (p ∷ ps) d (suc k) h = List·Memᴰ·tail (in-list ps d k (omega arith))
 
--- the table has eleven pairs; each id has a place in the notes; item 0A is listed with two bytes
+-- the table has eleven pairs; the meaning of each id has a place of its own in the notes; item 0A is listed with two bytes
 pub eleven : length mandatory ≡ 11
 unfolding mandatoryItems
 eleven = refl
 
-all-below : every (λ p. ltb (p .id) places) mandatory ≡ true
-unfolding mandatoryItems
-all-below = refl
+abbrev isPlaced : Pair → Bool
+isPlaced p = ltb (placeOf (decisionOf (p .id) .meaning)) (placeOf Other)
 
-pub below : (p : Pair) → List·Memᴰ p mandatory → p .id < places
-below p m = ltb-true (p .id) places (each (λ q. ltb (q .id) places) mandatory all-below p m)
+all-placed : every isPlaced mandatory ≡ true
+unfolding decisionOf knownItems mandatoryItems
+all-placed = refl
+
+pub each-placed : (p : Pair) → List·Memᴰ p mandatory → Placed (p .id)
+each-placed p m = ltb-true (placeOf (decisionOf (p .id) .meaning)) (placeOf Other) (each isPlaced mandatory all-placed p m)
 
 pub sum-listed : List·Memᴰ (record { id = 0x0A; size = 2 }) mandatory
 unfolding mandatoryItems

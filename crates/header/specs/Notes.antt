@@ -1,37 +1,61 @@
--- What `read_header` notes on its one walk over the items (01, "File header"): three lists with a place for each id, of how
--- many items have it, of the last one's length, and of where its data start. Only the contracts of private functions
--- speak of them; `proofs/NoteLaws.antt` leads from the notes to the definitions of `Header`.
+-- What `read_header` notes on its one walk over the items (01, "File header"): three lists with a place for each meaning, of
+-- how many items have it, of the last one's length, and of where its data start. Only the contracts of private functions
+-- speak of them; `proofs/NoteLaws.antt` leads from the notes to the definitions of `Header`, which go by id.
 -- Assumes nothing.
 use mathlib.Core.Path.{_≡_}
-use mathlib.Core.Bool.{cond}
 use mathlib.Core.List.{List}
 use Prim.Native.Nat.{ℕ, _+_, _≤_, _<_}
-use lib.Dec.{ltb}
 use lib.ListN.{length, getD, set, replicate}
-use Rattle.header.specs.Items.{items, countOf, startOf, sizeOf}
+use Rattle.header.specs.declared.Meaning.{Meaning}
+use Rattle.header.specs.declared.Meaning.the-variants.{End, FileNumber, FileName, FileExtension, FileSize, CreationTime, ModificationTime, UpsetFlag, FileType, BodySum, HeaderSum, BodyOffset, UploadTime, Other}
+use Rattle.header.specs.Items.{decisionOf, items, countOf, startOf, sizeOf}
 use Rattle.header.specs.Header.{headerLength}
 
--- how many ids have a place: those below 13 hexadecimal, the known ones among them
+-- the place of a meaning; all items of other ids share the last one
+abbrev pub placeOf : Meaning → ℕ
+placeOf End = 0
+placeOf FileNumber = 1
+placeOf FileName = 2
+placeOf FileExtension = 3
+placeOf FileSize = 4
+placeOf CreationTime = 5
+placeOf ModificationTime = 6
+placeOf UpsetFlag = 7
+placeOf FileType = 8
+placeOf BodySum = 9
+placeOf HeaderSum = 10
+placeOf BodyOffset = 11
+placeOf UploadTime = 12
+placeOf Other = 13
+
+-- how many places there are
 abbrev pub places : ℕ
-places = 19
+places = 14
 
 -- nothing is noted
 abbrev pub none : List ℕ
 none = replicate places 0
 
--- the note of an id
-abbrev pub noteOf : List ℕ → ℕ → ℕ
-noteOf notes id = getD notes id 0
+-- the note of a meaning, and of the meaning that an id decides
+abbrev pub noteOf : List ℕ → Meaning → ℕ
+noteOf notes m = getD notes (placeOf m) 0
 
--- the notes with that of an id changed, if it has a place
-abbrev pub withNote : List ℕ → ℕ → ℕ → List ℕ
-withNote notes id v = cond (ltb id places) (set notes id v) notes
+abbrev pub byId : List ℕ → ℕ → ℕ
+byId notes id = noteOf notes (decisionOf id .meaning)
+
+-- the notes with that of a meaning changed
+abbrev pub withNote : List ℕ → Meaning → ℕ → List ℕ
+withNote notes m v = set notes (placeOf m) v
+
+-- an id whose meaning has a place of its own
+abbrev pub Placed : ℕ → Type 0
+Placed id = placeOf (decisionOf id .meaning) < placeOf Other
 
 -- what all items of s leave in the notes
 pub record Noted (s : List ℕ) (end : ℕ) (counts sizes starts : List ℕ) : Type 0 where
   pub ends : end ≡ headerLength s
-  pub counted : (id : ℕ) → id < places → noteOf counts id ≡ countOf (items s) id
-  pub sized : (id : ℕ) → id < places → noteOf sizes id ≡ sizeOf (items s) id
-  pub started : (id : ℕ) → id < places → noteOf starts id ≡ startOf (items s) id
-  pub within : 0 < end → (id : ℕ) → id < places → noteOf starts id + noteOf sizes id ≤ end
+  pub counted : (id : ℕ) → Placed id → byId counts id ≡ countOf (items s) id
+  pub sized : (id : ℕ) → Placed id → byId sizes id ≡ sizeOf (items s) id
+  pub started : (id : ℕ) → Placed id → byId starts id ≡ startOf (items s) id
+  pub within : 0 < end → (id : ℕ) → Placed id → byId starts id + byId sizes id ≤ end
   pub inside : end ≤ length s

@@ -242,11 +242,11 @@ pub fn read_header(s: &[u8], number: u32) -> HeaderRead
     if !notes::all_once(&counts, &sizes) {
         return HeaderRead::Refused(8);
     }
-    if 1 < counts[0x12] {
+    if 1 < notes::noted(&counts, Meaning::UploadTime) {
         return HeaderRead::Refused(8);
     }
     let header = values::values(s, end, &counts, &starts);
-    let sum = values::sum_but(&s[..end], starts[0x0A]);
+    let sum = values::sum_but(&s[..end], notes::noted(&starts, Meaning::HeaderSum));
     if !values::agree(header, sum, number) {
         return HeaderRead::Refused(8);
     }

@@ -1,16 +1,17 @@
-// What one walk over a header's items notes of each id that has a place: how many items have it, and
-// the length and the start of the last one's data.
+// What one walk over a header's items notes of each meaning: how many items have it, and the length and
+// the start of the last one's data.
 use super::Cursor;
 use super::Item;
+use super::Meaning;
 use super::Pair;
 use super::Step;
 ghost use mathlib.Core.Path.{_≡_};
 ghost use Prim.Native.Nat.{_+_, _<_};
 ghost use Rattle.header.specs.Header.{mandatory, every, once};
-ghost use Rattle.header.specs.Notes.{places, none, noteOf, withNote, Noted};
+ghost use Rattle.header.specs.Notes.{places, placeOf, none, noteOf, byId, withNote, Noted};
 
-// The ids that have a place in the notes: those below 13 hexadecimal, the known ones among them.
-pub(crate) const PLACES: usize = 19;
+// How many places the notes have, one for each meaning.
+pub(crate) const PLACES: usize = 14;
 
 // The mandatory items: id and length.
 const MANDATORY: [Pair; 11] = [
@@ -58,22 +59,51 @@ fn note(
     starts: &mut [usize; PLACES],
     item: Item,
 )
-    requires { ⌜ noteOf (now counts) (item .id) < item .start ⌝ }
-    ensures { λ r. ⌜ now (counts .exit) ≡ withNote (now (counts .entry)) (item .id) (noteOf (now (counts .entry)) (item .id) + 1) ⌝ }
-    ensures { λ r. ⌜ now (sizes .exit) ≡ withNote (now (sizes .entry)) (item .id) (item .size) ⌝ }
-    ensures { λ r. ⌜ now (starts .exit) ≡ withNote (now (starts .entry)) (item .id) (item .start) ⌝ }
+    requires { ⌜ noteOf (now counts) (item .meaning) < item .start ⌝ }
+    ensures { λ r. ⌜ now (counts .exit) ≡ withNote (now (counts .entry)) (item .meaning) (noteOf (now (counts .entry)) (item .meaning) + 1) ⌝ }
+    ensures { λ r. ⌜ now (sizes .exit) ≡ withNote (now (sizes .entry)) (item .meaning) (item .size) ⌝ }
+    ensures { λ r. ⌜ now (starts .exit) ≡ withNote (now (starts .entry)) (item .meaning) (item .start) ⌝ }
 {
-    let id = item.id as usize;
-    if id < PLACES {
-        counts[id] += 1;
-        sizes[id] = item.size;
-        starts[id] = item.start;
+    let meaning = item.meaning;
+    let at = place(meaning);
+    counts[at] += 1;
+    sizes[at] = item.size;
+    starts[at] = item.start;
+}
+
+// The place of a meaning in the notes.
+fn place(meaning: Meaning) -> usize
+    ensures { λ r. ⌜ (r ≡ placeOf meaning) × (r < places) ⌝ }
+{
+    match meaning {
+        Meaning::End => 0,
+        Meaning::FileNumber => 1,
+        Meaning::FileName => 2,
+        Meaning::FileExtension => 3,
+        Meaning::FileSize => 4,
+        Meaning::CreationTime => 5,
+        Meaning::ModificationTime => 6,
+        Meaning::UpsetFlag => 7,
+        Meaning::FileType => 8,
+        Meaning::BodySum => 9,
+        Meaning::HeaderSum => 10,
+        Meaning::BodyOffset => 11,
+        Meaning::UploadTime => 12,
+        Meaning::Other => 13,
     }
+}
+
+// What is noted of a meaning.
+pub(crate) fn noted(notes: &[usize; PLACES], meaning: Meaning) -> usize
+    ensures { λ r. ⌜ r ≡ noteOf (now (notes .entry)) meaning ⌝ }
+{
+    let at = place(meaning);
+    notes[at]
 }
 
 // Whether each mandatory item was met exactly once, with its length.
 pub(crate) fn all_once(counts: &[usize; PLACES], sizes: &[usize; PLACES]) -> bool
-    ensures { λ r. ⌜ r ≡ every (once (noteOf (now (counts .entry))) (noteOf (now (sizes .entry)))) mandatory ⌝ }
+    ensures { λ r. ⌜ r ≡ every (once (byId (now (counts .entry))) (byId (now (sizes .entry)))) mandatory ⌝ }
 {
     let table = MANDATORY;
     for k in 0..11 {
@@ -87,9 +117,9 @@ pub(crate) fn all_once(counts: &[usize; PLACES], sizes: &[usize; PLACES]) -> boo
 
 // Whether the pair's item was met exactly once, with its length.
 fn once(counts: &[usize; PLACES], sizes: &[usize; PLACES], pair: Pair) -> bool
-    requires { ⌜ pair .id < places ⌝ }
-    ensures { λ r. ⌜ r ≡ once (noteOf (now (counts .entry))) (noteOf (now (sizes .entry))) pair ⌝ }
+    ensures { λ r. ⌜ r ≡ once (byId (now (counts .entry))) (byId (now (sizes .entry))) pair ⌝ }
 {
-    let id = pair.id as usize;
-    (counts[id] == 1) & (sizes[id] == pair.size)
+    let decision = super::decide(pair.id);
+    let meaning = decision.meaning;
+    (noted(counts, meaning) == 1) & (noted(sizes, meaning) == pair.size)
 }

@@ -2,16 +2,20 @@
 // and whether they agree.
 use super::Extension;
 use super::Header;
+use super::Meaning;
 use super::Name;
 use super::Upload;
 use super::notes::PLACES;
+use super::notes::noted;
 ghost use mathlib.Core.Path.{_≡_};
 ghost use mathlib.Core.List.{[], _∷_};
 ghost use Prim.Native.Nat.{_+_, _%_, _≤_, _<_};
 ghost use lib.ListN.{length};
+ghost use Rattle.octets.specs.Numbers.{byteAt, numberAt};
 ghost use Rattle.octets.specs.Runs.{putIn};
 ghost use Rattle.header.specs.Header.{beginsRight, sumOf, valuesAgree, nameAt, extensionAt, uploadBy, valuesBy};
-ghost use Rattle.header.specs.Notes.{noteOf};
+ghost use Rattle.header.specs.Notes.{noteOf, byId};
+ghost use Rattle.header.specs.declared.Meaning.the-variants.{FileName, FileExtension};
 
 // Whether s begins with AA 55.
 pub(crate) fn begins(s: &[u8]) -> bool
@@ -27,21 +31,22 @@ pub(crate) fn values(
     counts: &[usize; PLACES],
     starts: &[usize; PLACES],
 ) -> Header
-    requires { ⌜ (noteOf (now starts) 0x02 ≤ length (now s)) × (noteOf (now starts) 0x03 ≤ length (now s)) ⌝ }
-    ensures { λ r. ⌜ r ≡ valuesBy (noteOf (now (counts .entry))) (noteOf (now (starts .entry))) end (now (s .entry)) ⌝ }
+    requires { ⌜ (noteOf (now starts) FileName ≤ length (now s)) × (noteOf (now starts) FileExtension ≤ length (now s)) ⌝ }
+    ensures { λ r. ⌜ r ≡ valuesBy (byId (now (counts .entry))) (byId (now (starts .entry))) end (now (s .entry)) ⌝ }
 {
-    let number = octets::number4(s, starts[0x01]);
-    let name = name_at(s, starts[0x02]);
-    let extension = extension_at(s, starts[0x03]);
-    let size = octets::number4(s, starts[0x04]);
-    let created = octets::number4(s, starts[0x05]);
-    let modified = octets::number4(s, starts[0x06]);
-    let upset = octets::byte(s, starts[0x07]);
-    let kind = octets::byte(s, starts[0x08]);
-    let bodysum = octets::number2(s, starts[0x09]);
-    let headersum = octets::number2(s, starts[0x0A]);
-    let body = octets::number2(s, starts[0x0B]);
-    let upload = upload_at(s, counts[0x12], starts[0x12]);
+    let number = four(s, starts, Meaning::FileNumber);
+    let name = name_at(s, noted(starts, Meaning::FileName));
+    let extension = extension_at(s, noted(starts, Meaning::FileExtension));
+    let size = four(s, starts, Meaning::FileSize);
+    let created = four(s, starts, Meaning::CreationTime);
+    let modified = four(s, starts, Meaning::ModificationTime);
+    let upset = one(s, starts, Meaning::UpsetFlag);
+    let kind = one(s, starts, Meaning::FileType);
+    let bodysum = two(s, starts, Meaning::BodySum);
+    let headersum = two(s, starts, Meaning::HeaderSum);
+    let body = two(s, starts, Meaning::BodyOffset);
+    let uploads = noted(counts, Meaning::UploadTime);
+    let upload = upload_at(s, uploads, noted(starts, Meaning::UploadTime));
     Header {
         number,
         name,
@@ -97,6 +102,27 @@ fn wide(b: u8) -> u32
     ensures { λ r. ⌜ (r ≡ b) × (r < 256) ⌝ }
 {
     b as u32
+}
+
+// The number of four bytes of the item with the meaning.
+fn four(s: &[u8], starts: &[usize; PLACES], meaning: Meaning) -> u32
+    ensures { λ r. ⌜ r ≡ numberAt 4 (now (s .entry)) (noteOf (now (starts .entry)) meaning) ⌝ }
+{
+    octets::number4(s, noted(starts, meaning))
+}
+
+// Its number of two bytes.
+fn two(s: &[u8], starts: &[usize; PLACES], meaning: Meaning) -> u16
+    ensures { λ r. ⌜ r ≡ numberAt 2 (now (s .entry)) (noteOf (now (starts .entry)) meaning) ⌝ }
+{
+    octets::number2(s, noted(starts, meaning))
+}
+
+// Its one byte.
+fn one(s: &[u8], starts: &[usize; PLACES], meaning: Meaning) -> u8
+    ensures { λ r. ⌜ r ≡ byteAt (now (s .entry)) (noteOf (now (starts .entry)) meaning) ⌝ }
+{
+    octets::byte(s, noted(starts, meaning))
 }
 
 // The eight bytes of s from a place on, as a name.

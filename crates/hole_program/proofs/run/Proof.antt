@@ -3,11 +3,6 @@
 use borrow.Author.Needs.{needs}
 use Rattle.hole_program.proofs.run.Statement.{statement}
 use Rattle.hole_program.proofs.run.Tie as tie
-use Rattle.hole_program.proofs.run.Reads as reads
-use Rattle.hole_program.proofs.run.Lts as lts
-use Rattle.io.proofs.read_full.Reads as read-full-reads
-use Rattle.io.proofs.write_all.Reads as write-all-reads
-use Rattle.hole_program.proofs.report_all.Reads as report-all-reads
 use mathlib.Core.Path.{sym}
 use Prim.Native.Nat.{_≤_}
 use native.Mathlib.Omega.{arith}

@@ -14,13 +14,13 @@ use borrow.Author.Tests.{not-true, not-false}
 use Rattle.header.specs.declared.Pair.{Pair}
 use Rattle.header.specs.Items.{mandatoryItems}
 use Rattle.header.specs.Header.{mandatory, every, once}
-use Rattle.header.specs.Notes.{noteOf}
-use Rattle.header.proofs.TableLaws.{below, in-list, eleven}
+use Rattle.header.specs.Notes.{byId}
+use Rattle.header.proofs.TableLaws.{eleven}
 use Rattle.header.proofs.notes.all_once.Statement.{statement}
 use Rattle.header.proofs.notes.all_once.Tie as tie
 
 abbrev Inv-loop : tie.InvT-loop
-Inv-loop counts sizes table k₀ k = (k ≤ 11) × (every (once (noteOf counts) (noteOf sizes)) (drop k mandatory) ≡ every (once (noteOf counts) (noteOf sizes)) mandatory)
+Inv-loop counts sizes table k₀ k = (k ≤ 11) × (every (once (byId counts) (byId sizes)) (drop k mandatory) ≡ every (once (byId counts) (byId sizes)) mandatory)
 
 abbrev μ-loop : tie.MeasureT-loop
 μ-loop counts sizes table k₀ k = 11 - k
@@ -41,13 +41,9 @@ scanned test ps k b h e i = sym (ap (λ (x : Bool). x && every test (drop (k + 1
 all-done : (test : Pair → Bool) (ps : List Pair) (k : ℕ) → length ps ≤ k → every test (drop k ps) ≡ every test ps → true ≡ every test ps
 all-done test ps k h i = sym (ap (every test) (drop-of-length-le ps h)) ∙ i
 
--- the id of each of the code's pairs has a place in the notes
-inside : (k : ℕ) → k < 11 → getD mandatory k nothing .id < 19
-inside k h = below (getD mandatory k nothing) (in-list mandatory nothing k (omega (arith, eleven)))
-
 -- the test of one pair
 abbrev Test : tie.At-loop Inv-loop μ-loop → Pair → Bool
-Test c = once (noteOf (now (c .before .args .counts))) (noteOf (now (c .before .args .sizes)))
+Test c = once (byId (now (c .before .args .counts))) (byId (now (c .before .args .sizes)))
 
 -- what `once` answered is about the definition's pair
 answered : (c : tie.After-once Inv-loop μ-loop)
@@ -65,8 +61,7 @@ array-copy-out-pair : tie.Need-array-copy-out-pair Inv-loop μ-loop
 array-copy-out-pair c = search needs
 
 once-requires : tie.Need-once-requires Inv-loop μ-loop
-unfolding mandatoryItems nothing
-once-requires c κs = inside (c .before .before .loop .k) (c .before .loop-test .taken)
+once-requires c κs = search needs
 
 returns : tie.Need-returns Inv-loop μ-loop
 returns c =

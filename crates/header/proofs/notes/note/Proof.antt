@@ -1,24 +1,23 @@
--- `header::notes::note` meets its contract: the three notes of the item's id are changed, if it has a place.
+-- `header::notes::note` meets its contract: the three notes of the item's meaning are changed.
 -- Assumes nothing.
-use mathlib.Core.Path.{_≡_}
+use mathlib.Core.Path.{_≡_, ap, ap₂}
 use mathlib.Core.List.{List}
-use Prim.Native.Nat.{ℕ, _+_, _≤_, _<_}
-use lib.ListN.{set}
+use Prim.Native.Nat.{ℕ, _+_}
+use native.Mathlib.Omega.{arith}
+use lib.ListN.{getD, set}
 use denote.Ref.{now}
-use borrow.Author.Tests.{lt-ltb, le-ltb}
-use Rattle.header.specs.Notes.{places, noteOf, withNote}
+use Rattle.header.specs.declared.Meaning.{Meaning}
+use Rattle.header.specs.Notes.{placeOf, noteOf}
 use borrow.Author.Needs.{needs}
 use Rattle.header.proofs.notes.note.Statement.{statement}
 use Rattle.header.proofs.notes.note.Tie as tie
 
-marked : (notes : List ℕ) (id v : ℕ) → id < places → set notes id v ≡ withNote notes id v
-marked notes id v h = simp (lt-ltb _ _ h)
+-- what stands at the place is the note
+noted-at : (notes : List ℕ) (m : Meaning) (p : ℕ) → p ≡ placeOf m → getD notes p 0 ≡ noteOf notes m
+noted-at notes m p e = ap (λ (q : ℕ). getD notes q 0) e
 
-kept : (notes : List ℕ) (id v : ℕ) → places ≤ id → notes ≡ withNote notes id v
-kept notes id v h = simp (le-ltb _ _ h)
-
-cast-id : tie.Need-cast-id
-cast-id c = search needs
+place-requires : tie.Need-place-requires
+place-requires c κs = search needs
 
 mul-counts : tie.Need-mul-counts
 mul-counts c = search needs
@@ -27,7 +26,7 @@ element-copy-out-counts : tie.Need-element-copy-out-counts
 element-copy-out-counts c = search needs
 
 add-counts : tie.Need-add-counts
-add-counts c = search needs
+add-counts c = let e = noted-at (now (c .before .before .args .counts)) (c .before .before .args .item .meaning) (c .before .place .result) (c .before .place .ensures .0) in omega (arith, e, c .before .before .pre)
 
 element-write-counts : tie.Need-element-write-counts
 element-write-counts c = search needs
@@ -46,18 +45,17 @@ element-write-starts c = search needs
 
 returns : tie.Need-returns
 returns c =
-    let a = c .before .before .before .args in
-    let h = c .before .if1 .taken in
-    (marked (now (a .counts)) (a .item .id) (noteOf (now (a .counts)) (a .item .id) + 1) h, (marked (now (a .sizes)) (a .item .id) (a .item .size) h, marked (now (a .starts)) (a .item .id) (a .item .start) h))
-
-returns-2 : tie.Need-returns-2
-returns-2 c = (kept _ _ _ (c .if1 .left), (kept _ _ _ (c .if1 .left), kept _ _ _ (c .if1 .left)))
+    let a = c .before .before .args in
+    let e = c .before .place .ensures .0 in (
+      ap₂ (set (now (a .counts))) e (ap (λ (n : ℕ). n + 1) (noted-at (now (a .counts)) (a .item .meaning) (c .before .place .result) e)),
+      (ap (λ (p : ℕ). set (now (a .sizes)) p (a .item .size)) e, ap (λ (p : ℕ). set (now (a .starts)) p (a .item .start)) e),
+    )
 
 pub note-spec : {M : Type 1} → statement M
 note-spec =
     tie.close
     (tie.spec
-    cast-id
+    place-requires
     mul-counts
     element-copy-out-counts
     add-counts
@@ -66,5 +64,4 @@ note-spec =
     element-write-sizes
     mul-starts
     element-write-starts
-    returns
-    returns-2)
+    returns)

@@ -6,9 +6,9 @@ use Prim.Native.Nat.{ℕ, _-_}
 use native.Mathlib.Omega.{arith}
 use lib.ListN.{length}
 use borrow.Author.Needs.{needs}
-use Rattle.header.specs.Notes.{none}
+use Rattle.header.specs.Notes.{placeOf, none}
 use Rattle.header.proofs.ItemLaws.{found-by-told}
-use Rattle.header.proofs.NoteLaws.{SoFar, before-all, count-few, one-more-by, at-end, at-break}
+use Rattle.header.proofs.NoteLaws.{SoFar, before-all, one-more-by, at-end, at-break}
 use Rattle.header.proofs.notes.walk.Statement.{statement}
 use Rattle.header.proofs.notes.walk.Tie as tie
 
@@ -39,7 +39,7 @@ note-requires c κs =
     let i = c .before .before .before .before in
     let l = i .before .before .before in
     let x = found-by-told _ _ (i .item .given .1) (i .before .before .step .ensures) in
-    omega (arith, count-few _ _ _ _ _ (l .loop .inv) (i .item .given .0 .0 .id), x .starts)
+    omega (arith, l .loop .inv .few (placeOf (i .item .given .0 .0 .meaning)), x .starts)
 
 loop-less : tie.Need-loop-less Inv-loop μ-loop
 loop-less c =

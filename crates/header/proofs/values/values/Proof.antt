@@ -1,155 +1,122 @@
--- `header::values::values` meets its contract: each value is read where the notes say.
+-- `header::values::values` meets its contract: each value is read where the notes of its meaning say.
 -- Assumes nothing.
-use mathlib.Core.Path.{_≡_}
+use mathlib.Core.Path.{_≡_, ap, ap₂, _∙_}
 use mathlib.Core.List.{List}
 use Prim.Native.Nat.{ℕ}
 use denote.Ref.{now}
-use borrow.Author.Needs.{needs}
 use Rattle.octets.specs.Numbers.{byteAt, numberAt}
+use Rattle.header.specs.declared.Meaning.the-variants.{FileNumber, FileName, FileExtension, FileSize, CreationTime, ModificationTime, UpsetFlag, FileType, BodySum, HeaderSum, BodyOffset, UploadTime}
 use Rattle.header.specs.declared.Name.{Name}
 use Rattle.header.specs.declared.Extension.{Extension}
 use Rattle.header.specs.declared.Upload.{Upload}
 use Rattle.header.specs.declared.Header.{Header}
+use Rattle.header.specs.Items.{mandatoryItems, knownItems, decisionOf}
 use Rattle.header.specs.Header.{nameAt, extensionAt, uploadBy, valuesBy}
-use Rattle.header.specs.Notes.{noteOf}
+use Rattle.header.specs.Notes.{noteOf, byId}
+use borrow.Author.Needs.{needs}
 use Rattle.header.proofs.values.values.Statement.{statement}
 use Rattle.header.proofs.values.values.Tie as tie
 
 made : (s : List ℕ) (end : ℕ) (counts starts : List ℕ) (number : ℕ) (name : Name) (extension : Extension) (size : ℕ) (created : ℕ) (modified : ℕ) (upset : ℕ) (kind : ℕ) (bodysum : ℕ) (headersum : ℕ) (body : ℕ) (upload : Upload)
-    → number ≡ numberAt 4 s (noteOf starts 0x01)
-    → name ≡ nameAt s (noteOf starts 0x02)
-    → extension ≡ extensionAt s (noteOf starts 0x03)
-    → size ≡ numberAt 4 s (noteOf starts 0x04)
-    → created ≡ numberAt 4 s (noteOf starts 0x05)
-    → modified ≡ numberAt 4 s (noteOf starts 0x06)
-    → upset ≡ byteAt s (noteOf starts 0x07)
-    → kind ≡ byteAt s (noteOf starts 0x08)
-    → bodysum ≡ numberAt 2 s (noteOf starts 0x09)
-    → headersum ≡ numberAt 2 s (noteOf starts 0x0A)
-    → body ≡ numberAt 2 s (noteOf starts 0x0B)
-    → upload ≡ uploadBy (noteOf counts 0x12) (noteOf starts 0x12) s
-    → _≡_ {A = Header} (record { number = number; name = name; extension = extension; size = size; created = created; modified = modified; upset = upset; kind = kind; bodysum = bodysum; headersum = headersum; body = body; upload = upload; bytes = end }) (valuesBy (noteOf counts) (noteOf starts) end s)
+    → number ≡ numberAt 4 s (noteOf starts FileNumber)
+    → name ≡ nameAt s (noteOf starts FileName)
+    → extension ≡ extensionAt s (noteOf starts FileExtension)
+    → size ≡ numberAt 4 s (noteOf starts FileSize)
+    → created ≡ numberAt 4 s (noteOf starts CreationTime)
+    → modified ≡ numberAt 4 s (noteOf starts ModificationTime)
+    → upset ≡ byteAt s (noteOf starts UpsetFlag)
+    → kind ≡ byteAt s (noteOf starts FileType)
+    → bodysum ≡ numberAt 2 s (noteOf starts BodySum)
+    → headersum ≡ numberAt 2 s (noteOf starts HeaderSum)
+    → body ≡ numberAt 2 s (noteOf starts BodyOffset)
+    → upload ≡ uploadBy (noteOf counts UploadTime) (noteOf starts UploadTime) s
+    → _≡_ {A = Header} (record { number = number; name = name; extension = extension; size = size; created = created; modified = modified; upset = upset; kind = kind; bodysum = bodysum; headersum = headersum; body = body; upload = upload; bytes = end }) (valuesBy (byId counts) (byId starts) end s)
+unfolding decisionOf knownItems mandatoryItems
 made s end counts starts number name extension size created modified upset kind bodysum headersum body upload e1 e2 e3 e4 e5 e6 e7 e8 e9 e10 e11 e12 = rw (e1, e2, e3, e4, e5, e6, e7, e8, e9, e10, e11, e12)
 
-element-copy-out-number4 : tie.Need-element-copy-out-number4
-element-copy-out-number4 c = search needs
+four-requires : tie.Need-four-requires
+four-requires c κs = search needs
 
-number4-requires : tie.Need-number4-requires
-number4-requires c κs = search needs
-
-element-copy-out-name-at : tie.Need-element-copy-out-name-at
-element-copy-out-name-at c = search needs
+noted-requires : tie.Need-noted-requires
+noted-requires c κs = search needs
 
 name-at-requires : tie.Need-name-at-requires
 name-at-requires c κs = search needs
 
-element-copy-out-extension-at : tie.Need-element-copy-out-extension-at
-element-copy-out-extension-at c = search needs
+noted-requires-2 : tie.Need-noted-requires-2
+noted-requires-2 c κs = search needs
 
 extension-at-requires : tie.Need-extension-at-requires
 extension-at-requires c κs = search needs
 
-element-copy-out-number4-2 : tie.Need-element-copy-out-number4-2
-element-copy-out-number4-2 c = search needs
+four-requires-2 : tie.Need-four-requires-2
+four-requires-2 c κs = search needs
 
-number4-requires-2 : tie.Need-number4-requires-2
-number4-requires-2 c κs = search needs
+four-requires-3 : tie.Need-four-requires-3
+four-requires-3 c κs = search needs
 
-element-copy-out-number4-3 : tie.Need-element-copy-out-number4-3
-element-copy-out-number4-3 c = search needs
+four-requires-4 : tie.Need-four-requires-4
+four-requires-4 c κs = search needs
 
-number4-requires-3 : tie.Need-number4-requires-3
-number4-requires-3 c κs = search needs
+one-requires : tie.Need-one-requires
+one-requires c κs = search needs
 
-element-copy-out-number4-4 : tie.Need-element-copy-out-number4-4
-element-copy-out-number4-4 c = search needs
+one-requires-2 : tie.Need-one-requires-2
+one-requires-2 c κs = search needs
 
-number4-requires-4 : tie.Need-number4-requires-4
-number4-requires-4 c κs = search needs
+two-requires : tie.Need-two-requires
+two-requires c κs = search needs
 
-element-copy-out-byte : tie.Need-element-copy-out-byte
-element-copy-out-byte c = search needs
+two-requires-2 : tie.Need-two-requires-2
+two-requires-2 c κs = search needs
 
-byte-requires : tie.Need-byte-requires
-byte-requires c κs = search needs
+two-requires-3 : tie.Need-two-requires-3
+two-requires-3 c κs = search needs
 
-element-copy-out-byte-2 : tie.Need-element-copy-out-byte-2
-element-copy-out-byte-2 c = search needs
+noted-requires-3 : tie.Need-noted-requires-3
+noted-requires-3 c κs = search needs
 
-byte-requires-2 : tie.Need-byte-requires-2
-byte-requires-2 c κs = search needs
-
-element-copy-out-number2 : tie.Need-element-copy-out-number2
-element-copy-out-number2 c = search needs
-
-number2-requires : tie.Need-number2-requires
-number2-requires c κs = search needs
-
-element-copy-out-number2-2 : tie.Need-element-copy-out-number2-2
-element-copy-out-number2-2 c = search needs
-
-number2-requires-2 : tie.Need-number2-requires-2
-number2-requires-2 c κs = search needs
-
-element-copy-out-number2-3 : tie.Need-element-copy-out-number2-3
-element-copy-out-number2-3 c = search needs
-
-number2-requires-3 : tie.Need-number2-requires-3
-number2-requires-3 c κs = search needs
-
-element-copy-out-upload-at : tie.Need-element-copy-out-upload-at
-element-copy-out-upload-at c = search needs
-
-element-copy-out-upload-at-2 : tie.Need-element-copy-out-upload-at-2
-element-copy-out-upload-at-2 c = search needs
+noted-requires-4 : tie.Need-noted-requires-4
+noted-requires-4 c κs = search needs
 
 upload-at-requires : tie.Need-upload-at-requires
 upload-at-requires c κs = search needs
 
 returns : tie.Need-returns
 returns c =
-    let a = c .before .before .before .before .before .before .before .before .before .before .before .before .before .before .before .before .before .before .before .before .before .before .before .before .before .before .args in
+    let a = c .before .before .before .before .before .before .before .before .before .before .before .before .before .before .before .before .before .args in
     made (now (a .s)) (a .end) (now (a .counts)) (now (a .starts)) _ _ _ _ _ _ _ _ _ _ _ _
-    (c .before .before .before .before .before .before .before .before .before .before .before .before .before .before .before .before .before .before .before .before .before .before .before .number4 .ensures)
-    (c .before .before .before .before .before .before .before .before .before .before .before .before .before .before .before .before .before .before .before .before .before .name-at .ensures)
-    (c .before .before .before .before .before .before .before .before .before .before .before .before .before .before .before .before .before .before .before .extension-at .ensures)
-    (c .before .before .before .before .before .before .before .before .before .before .before .before .before .before .before .before .before .number42 .ensures)
-    (c .before .before .before .before .before .before .before .before .before .before .before .before .before .before .before .number43 .ensures)
-    (c .before .before .before .before .before .before .before .before .before .before .before .before .before .number44 .ensures)
-    (c .before .before .before .before .before .before .before .before .before .before .before .byte .ensures)
-    (c .before .before .before .before .before .before .before .before .before .byte2 .ensures)
-    (c .before .before .before .before .before .before .before .number2 .ensures)
-    (c .before .before .before .before .before .number22 .ensures)
-    (c .before .before .before .number23 .ensures)
-    (c .upload-at .ensures)
+    (c .before .before .before .before .before .before .before .before .before .before .before .before .before .before .before .four .ensures)
+    (c .before .before .before .before .before .before .before .before .before .before .before .before .before .name-at .ensures ∙ ap (nameAt (now (a .s))) (c .before .before .before .before .before .before .before .before .before .before .before .before .before .before .noted .ensures))
+    (c .before .before .before .before .before .before .before .before .before .before .before .extension-at .ensures ∙ ap (extensionAt (now (a .s))) (c .before .before .before .before .before .before .before .before .before .before .before .before .noted2 .ensures))
+    (c .before .before .before .before .before .before .before .before .before .before .four2 .ensures)
+    (c .before .before .before .before .before .before .before .before .before .four3 .ensures)
+    (c .before .before .before .before .before .before .before .before .four4 .ensures)
+    (c .before .before .before .before .before .before .before .one .ensures)
+    (c .before .before .before .before .before .before .one2 .ensures)
+    (c .before .before .before .before .before .two .ensures)
+    (c .before .before .before .before .two2 .ensures)
+    (c .before .before .before .two3 .ensures)
+    (c .upload-at .ensures ∙ ap₂ (λ (n p : ℕ). uploadBy n p (now (a .s))) (c .before .before .noted3 .ensures) (c .before .noted4 .ensures))
 
 pub values-spec : {M : Type 1} → statement M
 values-spec =
     tie.close
     (tie.spec
-    element-copy-out-number4
-    number4-requires
-    element-copy-out-name-at
+    four-requires
+    noted-requires
     name-at-requires
-    element-copy-out-extension-at
+    noted-requires-2
     extension-at-requires
-    element-copy-out-number4-2
-    number4-requires-2
-    element-copy-out-number4-3
-    number4-requires-3
-    element-copy-out-number4-4
-    number4-requires-4
-    element-copy-out-byte
-    byte-requires
-    element-copy-out-byte-2
-    byte-requires-2
-    element-copy-out-number2
-    number2-requires
-    element-copy-out-number2-2
-    number2-requires-2
-    element-copy-out-number2-3
-    number2-requires-3
-    element-copy-out-upload-at
-    element-copy-out-upload-at-2
+    four-requires-2
+    four-requires-3
+    four-requires-4
+    one-requires
+    one-requires-2
+    two-requires
+    two-requires-2
+    two-requires-3
+    noted-requires-3
+    noted-requires-4
     upload-at-requires
     returns)
