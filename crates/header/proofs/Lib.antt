@@ -5,6 +5,7 @@ pub mod NoteLaws
 pub mod HeaderLaws
 pub mod RulesKept
 pub mod Says
+pub mod ItemSays
 pub mod OnlyOne
 pub mod InOrder
 pub mod Cases

@@ -5,3 +5,4 @@ pub mod Rules
 pub mod Notes
 pub mod Figure
 pub mod Says
+pub mod Told
