@@ -18,11 +18,10 @@ use Rattle.header.specs.declared.Item.{Item}
 use Rattle.header.specs.declared.Step.{Step}
 use Rattle.header.specs.declared.Step.the-variants.{Found, Ended, Broken}
 use Rattle.header.specs.declared.Pair.{Pair}
-use Rattle.header.specs.declared.Upload.{Upload}
 use Rattle.header.specs.declared.Upload.the-variants.{Time, Absent}
 use Rattle.header.specs.declared.Header.{Header}
 use Rattle.header.specs.Items.{Known, known, mandatoryItems, knownItems, lookUp, decisionOf, stepAt, Items, item, ended, broken, after, steps, itemsFrom, items, countOf, lastOf}
-use Rattle.header.specs.Header.{mandatory, nameBytes, extensionBytes, readHeader}
+use Rattle.header.specs.Header.{mandatory, readHeader}
 use Rattle.header.specs.Data.{dataOf}
 use Rattle.header.specs.Says.{HeaderSays}
 use Rattle.header.specs.Told.{Among, Tells}
@@ -145,42 +144,29 @@ module _ (s : List ℕ) (number : ℕ) (h : Header) (e : readHeader s number ≡
       ∙ ap (λ (b : Bool). cond b Absent (Time (numberAt 4 (dataOf 0x12 s) 0))) there
       ∙ ap (λ (d : List ℕ). Time (numberAt 4 d 0)) (bytes-are 0x12 (says .ruled .upload) j m is)
 
+  -- a value that is the bytes of its item's data, or their number
+  spelled : (id : ℕ) (bytes : List ℕ) → bytes ≡ dataOf id s → countOf (items s) id ≤ 1 → (j : Item) → Among j (items s) → j .id ≡ id → bytes ≡ Bytes j
+  spelled id bytes told few j m is = told ∙ bytes-are id few j m is
+
+  numbered : (n id v : ℕ) → v ≡ numberAt n (dataOf id s) 0 → countOf (items s) id ≤ 1
+      → (j : Item) → Among j (items s) → j .id ≡ id → v ≡ numberAt n (Bytes j) 0
+  numbered n id v told few j m is = told ∙ ap (λ (d : List ℕ). numberAt n d 0) (bytes-are id few j m is)
+
   all-told : Holds Told knownItems
   unfolding knownItems mandatoryItems
-  all-told = (
-    λ j m is. tt,
-    (
-      λ j m is. says .number ∙ ap (λ (d : List ℕ). numberAt 4 d 0) (bytes-are 0x01 (listed 0 0x01 4 (omega arith) refl) j m is),
-      (
-        λ j m is. says .name ∙ bytes-are 0x02 (listed 1 0x02 8 (omega arith) refl) j m is,
-        (
-          λ j m is. says .extension ∙ bytes-are 0x03 (listed 2 0x03 3 (omega arith) refl) j m is,
-          (
-            λ j m is. says .size ∙ ap (λ (d : List ℕ). numberAt 4 d 0) (bytes-are 0x04 (listed 3 0x04 4 (omega arith) refl) j m is),
-            (
-              λ j m is. says .created ∙ ap (λ (d : List ℕ). numberAt 4 d 0) (bytes-are 0x05 (listed 4 0x05 4 (omega arith) refl) j m is),
-              (
-                λ j m is. says .modified ∙ ap (λ (d : List ℕ). numberAt 4 d 0) (bytes-are 0x06 (listed 5 0x06 4 (omega arith) refl) j m is),
-                (
-                  λ j m is. says .upset ∙ ap (λ (d : List ℕ). numberAt 1 d 0) (bytes-are 0x07 (listed 6 0x07 1 (omega arith) refl) j m is),
-                  (
-                    λ j m is. says .kind ∙ ap (λ (d : List ℕ). numberAt 1 d 0) (bytes-are 0x08 (listed 7 0x08 1 (omega arith) refl) j m is),
-                    (
-                      λ j m is. says .bodysum ∙ ap (λ (d : List ℕ). numberAt 2 d 0) (bytes-are 0x09 (listed 8 0x09 2 (omega arith) refl) j m is),
-                      (
-                        λ j m is. says .headersum ∙ ap (λ (d : List ℕ). numberAt 2 d 0) (bytes-are 0x0A (listed 9 0x0A 2 (omega arith) refl) j m is),
-                        (λ j m is. says .body ∙ ap (λ (d : List ℕ). numberAt 2 d 0) (bytes-are 0x0B (listed 10 0x0B 2 (omega arith) refl) j m is), (uploaded, tt)),
-                      ),
-                    ),
-                  ),
-                ),
-              ),
-            ),
-          ),
-        ),
-      ),
-    ),
-  )
+  all-told =
+      let number = numbered 4 0x01 _ (says .number) (listed 0 0x01 4 (omega arith) refl) in
+      let name = spelled 0x02 _ (says .name) (listed 1 0x02 8 (omega arith) refl) in
+      let extension = spelled 0x03 _ (says .extension) (listed 2 0x03 3 (omega arith) refl) in
+      let size = numbered 4 0x04 _ (says .size) (listed 3 0x04 4 (omega arith) refl) in
+      let created = numbered 4 0x05 _ (says .created) (listed 4 0x05 4 (omega arith) refl) in
+      let modified = numbered 4 0x06 _ (says .modified) (listed 5 0x06 4 (omega arith) refl) in
+      let upset = numbered 1 0x07 _ (says .upset) (listed 6 0x07 1 (omega arith) refl) in
+      let kind = numbered 1 0x08 _ (says .kind) (listed 7 0x08 1 (omega arith) refl) in
+      let bodysum = numbered 2 0x09 _ (says .bodysum) (listed 8 0x09 2 (omega arith) refl) in
+      let headersum = numbered 2 0x0A _ (says .headersum) (listed 9 0x0A 2 (omega arith) refl) in
+      let body = numbered 2 0x0B _ (says .body) (listed 10 0x0B 2 (omega arith) refl) in
+      (λ j m is. tt, (number, (name, (extension, (size, (created, (modified, (upset, (kind, (bodysum, (headersum, (body, (uploaded, tt)))))))))))))
 
   -- An accepted header tells, for the meaning of each of its items, what the item's data say.
   pub item-says : (j : Item) → Among j (items s) → Tells h (j .meaning) (Bytes j)

@@ -1,8 +1,9 @@
 // The file header (01, "File header"): AA 55, then items of id, length and data, up to the end item.
 //
-// A cursor steps from item to item. `read_header` walks over all items once, notes what it meets,
-// and answers the header's values and its length, or reason 8; what follows the header in the slice
-// is not looked at. The contracts cite `specs/Items.antt`, `specs/Header.antt` and `specs/Data.antt`.
+// A cursor steps from item to item. `read_header` walks over all items once, notes each by its meaning,
+// reads the header's values by theirs, and answers them with the header's length, or reason 8; what
+// follows the header in the slice is not looked at. The contracts cite `specs/Items.antt`,
+// `specs/Header.antt` and `specs/Data.antt`.
 // `specs/Rules.antt` says the rules as propositions, and `proofs/RulesKept.antt` that a header is
 // accepted exactly if it keeps them all.
 mod notes;
