@@ -22,7 +22,3 @@ count test p (suc n) = cond (test p) 1 0 + count test (suc p) n
 unfoldable pub first : (ℕ → Bool) → ℕ → ℕ → ℕ
 first test p zero = p
 first test p (suc n) = cond (test p) p (first test (suc p) n)
-
--- where the eight positions from p on that are below n end
-abbrev pub upTo : ℕ → ℕ → ℕ
-upTo p n = cond (leb (p + 8) n) (p + 8) n

@@ -10,12 +10,12 @@ use lib.Dec.{eqb, leb}
 use borrow.Author.Tests.{eqb-true, leb-true, leb-false}
 use Rattle.reason.proofs.Bools.{le-or-lt}
 use Rattle.octets.specs.Numbers.{byteAt}
-use Rattle.positions.specs.Spans.{every, upTo}
+use Rattle.positions.specs.Spans.{every}
 use Rattle.positions.specs.Map.{isSet, held}
 use Rattle.positions.proofs.BitLaws.{set-shr}
 use Rattle.positions.proofs.SpanLaws.{every-same}
 use Rattle.positions.proofs.MapLaws.{held-by}
-use Rattle.reception.specs.Inner.{spanAt, sameAt, pieceAgrees, bitAgrees, MapRun}
+use Rattle.reception.specs.Inner.{spanAt, sameAt, pieceAgrees, bitAgrees, MapRun, upTo}
 use Rattle.reception.proofs.MarkLaws.{run-then}
 
 -- ---- eight where two tests pass, else one

@@ -27,6 +27,10 @@ noneOf side = cond side 0 255
 abbrev pub spanAt : ℕ → ℕ → ℕ
 spanAt p end = cond (eqb (p % 8) 0 && leb (p + 8) end) 8 1
 
+-- where the eight positions from p on that are below n end
+abbrev pub upTo : ℕ → ℕ → ℕ
+upTo p n = cond (leb (p + 8) n) (p + 8) n
+
 -- position p of a buffer has the byte of a piece whose first position is at
 abbrev pub sameAt : List ℕ → ℕ → List ℕ → ℕ → Bool
 sameAt buffer at piece p = eqb (byteAt buffer p) (byteAt piece (p - at))

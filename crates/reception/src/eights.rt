@@ -7,10 +7,10 @@ ghost use Prim.Native.Nat.{_+_, _-_, _≤_, _<_};
 ghost use lib.ListN.{length};
 ghost use Rattle.octets.specs.Numbers.{byteAt};
 ghost use Rattle.octets.specs.Values.{valuesFrom};
-ghost use Rattle.positions.specs.Spans.{every, upTo};
+ghost use Rattle.positions.specs.Spans.{every};
 ghost use Rattle.positions.specs.Map.{isSet};
 ghost use Rattle.reception.specs.Reception.{longest};
-ghost use Rattle.reception.specs.Inner.{sameAt, bitAgrees, BufferRun};
+ghost use Rattle.reception.specs.Inner.{sameAt, bitAgrees, BufferRun, upTo};
 
 // Where the positions of a byte that are below n end.
 pub(crate) fn byte_end(from: usize, n: usize) -> usize
