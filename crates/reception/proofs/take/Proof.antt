@@ -1,7 +1,7 @@
 -- `reception::take` meets its contract: the tests in their order, then the positions are marked and the bytes written.
 -- Assumes nothing.
 use mathlib.Core.Path.{_≡_, refl, sym, _∙_}
-use mathlib.Core.Bool.{Bool, true, false, not, _&&_}
+use mathlib.Core.Bool.{true, false}
 use Prim.Native.Nat.{ℕ, _+_, _≤_}
 use native.Mathlib.Omega.{arith}
 use lib.ListN.{length}
@@ -9,7 +9,6 @@ use borrow.Author.Tests.{not-false}
 use borrow.Author.Needs.{needs}
 use Rattle.positions.specs.Map.{mapSize}
 use Rattle.reception.specs.Reception.{longest, Reception, Piece, wrongLength, shortSpace}
-use Rattle.reason.proofs.Bools.{and-left}
 use Rattle.reason.specs.Answer.{refused}
 use Rattle.reception.specs.Adding.{ofPiece, agrees, Adds}
 use Rattle.reception.specs.Taking.{taking}
@@ -150,10 +149,6 @@ same-length-11 c = search needs
 same-length-12 : tie.Need-same-length-12
 same-length-12 c = search needs
 
--- a test that passes, whatever is asked beside the agreement
-alone : (a b : Bool) → not (a && b) ≡ false → a ≡ true
-alone a b e = and-left a b (not-false (a && b) e)
-
 returns-7 : tie.Need-returns-7
 returns-7 c =
     let a = c .before .before .before .before .before .before .before .before in
@@ -164,7 +159,7 @@ returns-7 c =
     let z = fits f in
     let agree = agreed a in
     let told = c .before .before .before .before .before .before .before .if6 .left in
-    let agree-true : agrees (s k) (ofPiece (x k)) ≡ true = agree ∙ search (not-false, alone, told) in
+    let agree-true : agrees (s k) (ofPiece (x k)) ≡ true = agree ∙ not-false _ told in
     let done = c .before .before .before .before .write .ensures in
     let new = done .0 .new in
     adds-counted (s k) (ofPiece (x k)) (taking (s k) (x k)) _ _ _ _
