@@ -23,22 +23,6 @@ const SECTIONS: [&str; 11] = [
     "How far a promise goes",
 ];
 
-/// The crates whose definitions a reader has to believe.
-const LIBRARY: [&str; 12] = [
-    "reason",
-    "octets",
-    "remainder",
-    "positions",
-    "ax25",
-    "header",
-    "frame",
-    "reception",
-    "request",
-    "record",
-    "report",
-    "station",
-];
-
 /// Files of `specs/` that need not stand on the page: private functions promise each other what is there, and no promise
 /// of a public function cites it.
 const PRIVATE: [&str; 5] = [
@@ -252,10 +236,9 @@ fn fault(cited: &Citation, known: &BTreeMap<&str, BTreeSet<String>>) -> Option<S
     }
 }
 
-// The public definitions of the library's `specs/`, each with its file.
+// The public definitions of every crate's `specs/`, each with its file.
 fn defined(sources: &Sources) -> Vec<(String, String)> {
-    let library = LIBRARY.iter().map(|part| format!("{part}/specs/")).collect::<Vec<String>>();
-    let files = sources.iter().filter(|(path, _)| library.iter().any(|folder| path.starts_with(folder)));
+    let files = sources.iter().filter(|(path, _)| path.split('/').nth(1) == Some("specs"));
     files
         .filter(|(path, _)| !PRIVATE.contains(&path.as_str()))
         .flat_map(|(path, source)| names(source).defined.into_iter().map(move |name| (path.clone(), name)))
