@@ -12,12 +12,18 @@ use Rattle.reason.specs.Order.{Check, check, firstOf}
 use Rattle.reason.proofs.OrderLaws.{accepted-only-if, refused-then, accepted-then, skip, none-left}
 use Rattle.reception.specs.Listing.{listingChecks}
 use Rattle.reception.specs.EveryHole.{lastEnd}
-use Rattle.reception.proofs.ListedLaws.{listed-most}
+use Rattle.reception.proofs.ListedLaws.{listed-most, listed-fewer}
 use Rattle.request.specs.declared.Asks.the-variants.{Holes}
 use Rattle.request.specs.declared.Written.{Written}
 use Rattle.request.specs.Request.{mostHoles, frameLength}
 use Rattle.request.specs.Writing.{Wanted, badAddress, shortTarget, holesFrom, filling, fillFrame}
 use Rattle.request.proofs.SentLaws.{frame-long}
+
+-- The request from a place has no more holes than the one from 0, so a target that takes the first of a run takes all.
+pub first-is-longest : (w : Wanted) (target : List ℕ) → frameLength (length (holesFrom w 0)) ≤ length target → (place : ℕ)
+    → frameLength (length (holesFrom w place)) ≤ length target
+first-is-longest w target room place =
+    let few = listed-fewer mostHoles (w .length) (w .map) 0 place (omega arith) in omega (arith, few, room)
 
 module _ (w : Wanted) (place : ℕ) where
   abbrev Count : ℕ

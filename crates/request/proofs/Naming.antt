@@ -20,6 +20,7 @@ use Rattle.ax25.specs.Address.{isWritable}
 use Rattle.reception.specs.declared.Hole.{Hole}
 use Rattle.reception.specs.Reception.{wrongLength}
 use Rattle.reception.specs.Holes.{IsHole}
+use Rattle.reception.specs.Listing.{listing}
 use Rattle.reception.specs.EveryHole.{endOf, Ascending, OneOf, Each}
 use Rattle.reception.proofs.HoleLaws.{all-are-holes, in-a-hole}
 use Rattle.request.specs.declared.Written.{Written}
@@ -118,7 +119,7 @@ frames-times (frame ∷ frames) p up =
 
 module _ (w : Wanted) (target : List ℕ) (good : (isWritable (w .head .destination) && isWritable (w .head .source)) ≡ true)
     (number : w .number < 256 ^ 4)
-    (room : frameLength (length (holesFrom w 0)) ≤ length target) (right : wrongLength (w .length) ≡ false) (long : mapSize (w .length) ≤ length (w .map)) where
+    (room : (place : ℕ) (hole : Hole) → listing (w .length) (w .map) place ≡ accepted hole → frameLength (length (holesFrom w place)) ≤ length target) (right : wrongLength (w .length) ≡ false) (long : mapSize (w .length) ≤ length (w .map)) where
   -- the frames of a whole run
   abbrev Frames : List (List ℕ)
   Frames = sentFrom (w .length) w target 0

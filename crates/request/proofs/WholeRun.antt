@@ -21,7 +21,7 @@ use Rattle.reception.specs.Listing.{listing}
 use Rattle.reception.specs.EveryHole.{endOf, goOn, listedFrom, lastEnd, Ascending, AllHoles}
 use Rattle.reception.proofs.GivenReasons.{lists-15, lists}
 use Rattle.reception.proofs.HoleLaws.{ascending, all-holes-by}
-use Rattle.reception.proofs.ListedLaws.{listed-needs, listed-none, listed-fewer}
+use Rattle.reception.proofs.ListedLaws.{listed-needs, listed-none}
 use Rattle.request.specs.declared.Written.{Written}
 use Rattle.request.specs.Request.{mostHoles, frameLength}
 use Rattle.request.specs.Reading.{holesOf}
@@ -83,17 +83,17 @@ fewer-is-the-last w place target x written h =
     fills-refused w (x .end) target (can-write w place target x written) 15
     (ap (λ (y : Written). listing (w .length) (w .map) (y .end)) is ∙ none-left (w .length) (w .map) (needs .0) (needs .1) mostHoles place (omega arith))
 
--- A station that can send: its addresses can be written, the file's number has 32 bits, and the target has room for the frame of the first
--- request, which is the longest of a run.
+-- A station that can send: its addresses can be written, the file's number has 32 bits, and the target has room for the frame of each request
+-- that is written; room for the first is enough (`EnoughRoom: first-is-longest`).
 module _ (w : Wanted) (target : List ℕ) (good : (isWritable (w .head .destination) && isWritable (w .head .source)) ≡ true)
     (number : w .number < 256 ^ 4)
-    (room : frameLength (length (holesFrom w 0)) ≤ length target) where
+    (room : (place : ℕ) (hole : Hole) → listing (w .length) (w .map) place ≡ accepted hole → frameLength (length (holesFrom w place)) ≤ length target) where
   abbrev Told : ℕ → Written
   Told place = record { count = length (holesFrom w place); end = lastEnd place (holesFrom w place) }
 
   -- what a request answers, by what listing does
   fills-by : (place : ℕ) (hole : Hole) → listing (w .length) (w .map) place ≡ accepted hole → filling w place target ≡ accepted (Told place)
-  fills-by place hole e = fills w place target good hole e (omega (arith, room, listed-fewer mostHoles (w .length) (w .map) 0 place (omega arith)))
+  fills-by place hole e = fills w place target good hole e (room place hole e)
 
   -- a property of the frames of n requests from a place, and of the place after them
   module _ (P : ℕ → ℕ → List (List ℕ) → ℕ → Type 0)

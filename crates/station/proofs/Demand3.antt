@@ -20,7 +20,7 @@ use Rattle.record.specs.Loading.{loaded}
 use Rattle.record.proofs.RoundTrip as saved
 use Rattle.station.specs.Taking.{takingFrame, takenFrame}
 use Rattle.station.specs.Sequences.{takenFrames, inPiece, fitsFile, covered, Among}
-use Rattle.station.specs.Stations.{Station, receptionOf, Made}
+use Rattle.station.specs.Stations.{Station, receptionOf, Made, framesIn}
 use Rattle.station.specs.Demand3.{Demand3}
 use Rattle.station.proofs.StationLaws as of
 use Rattle.station.proofs.MadeLaws as made
@@ -29,17 +29,17 @@ use Rattle.station.proofs.CallLaws.{open-leaves, adding-leaves, calls-t
 module _ (number l : ℕ) (file : List ℕ) (ok : wrongLength l ≡ false) where
   -- the set that a made reception holds, and that it does
   set : (s : Reception) → Made number l file s → ℕ → Bool
-  set s m = covered number l (made.made-holds number l file ok s m .0)
+  set s m = covered number l (framesIn m)
 
   holds : (s : Reception) (m : Made number l file s) → HoldsOf number l file (set s m) s
   unfolding set
-  holds s m = made.made-holds number l file ok s m .1
+  holds s m = made.made-holds number l file ok s m
 
   -- a frame of a station's sequence again: its positions are all held
   repeat-counts-0 : (a : Station number l file) (frame : List ℕ) → Among frame (a .frames) → fitsFile number l frame ≡ true
       → (takingFrame (receptionOf a) frame ≡ accepted 0) × (takenFrame (receptionOf a) frame ≡ receptionOf a)
   repeat-counts-0 a frame among fit =
-      made.held-counts-0 number l file ok (receptionOf a) (made.stations-are-made number l file ok a) frame fit
+      made.held-counts-0 number l file ok (receptionOf a) (made.stations-are-made number l file ok a .0) frame fit
       (of.among-agrees number l file ok frame (a .frames) (a .agree) among fit)
       (λ p w. of.covered-is-held number l file ok a p (of.among-covers number l file ok frame (a .frames) among fit p w))
 

@@ -23,7 +23,7 @@ use Rattle.station.specs.Stations.{Station, fresh, receptionOf}
 use Rattle.station.proofs.FramesLaws as by
 
 -- a property of a reception, by another that is the same
-pub carry : (P : Reception → Type 0) (s t : Reception) → s ≡ t → P t → P s
+carry : (P : Reception → Type 0) (s t : Reception) → s ≡ t → P t → P s
 carry P s t e x = rw e x
 
 module _ (number l : ℕ) (file : List ℕ) (ok : wrongLength l ≡ false) where

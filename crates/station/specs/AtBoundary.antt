@@ -55,6 +55,7 @@ pub record AtBoundary : Type 0 where
   pub station-save : (s : Reception) (lent : out.Sized) → Returns (savingChecks s (lent .target)) lent (out.SavesOut s lent)
   pub station-load : (saved : List ℕ) (lent : Reception) → Returns (loadingChecks saved (lent .map) (lent .buffer)) lent (out.LoadsOut saved lent)
   pub station-piece : (frame : List ℕ) (lent : out.PieceNumbers) → Returns (pieceOrder frame) lent (out.PieceOut frame lent)
+  -- `station_entry` has two promises, of the entry's numbers and of its header's
   pub station-entry : (frame : List ℕ) (lent : entry.EntryNumbers) → Returns (entryOrder frame) lent (entry.EntryOut frame lent)
   pub station-entry-header : (frame : List ℕ) (lent : entry.HeaderNumbers) → Returns (entryOrder frame) lent (entry.HeaderOut frame lent)
   pub station-header : (bytes : List ℕ) (number : ℕ) (lent : FileHeaderNumbers)

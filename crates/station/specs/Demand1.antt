@@ -19,10 +19,10 @@ use Rattle.header.specs.Header.{headerChecks, headerOf, readHeader, headerAnswe
 use Rattle.frame.specs.Piece.{pieceOrder, pieceOf, readPiece, pieceAnswer}
 use Rattle.frame.specs.Entry.{entryOrder, entryOf, readEntry, entryAnswer}
 use Rattle.reception.specs.Reception.{Reception, Piece}
-use Rattle.reception.specs.Adding.{ofPiece, ofReception, newIn, addedAnswer}
+use Rattle.reception.specs.Adding.{addedAnswer}
 use Rattle.reception.specs.Opening.{openingChecks, Opens}
-use Rattle.reception.specs.Taking.{takingChecks, Takes}
-use Rattle.reception.specs.Joining.{joiningChecks, Joins}
+use Rattle.reception.specs.Taking.{takingChecks, takenNew, Takes}
+use Rattle.reception.specs.Joining.{joiningChecks, joinedNew, Joins}
 use Rattle.reception.specs.Holes.{holeFrom}
 use Rattle.reception.specs.Listing.{listingChecks, listing, listedAnswer}
 use Rattle.reception.specs.EveryHole.{lastEnd}
@@ -71,18 +71,18 @@ pub record Demand1 : Type 0 where
       → Answers (requestOrder frame) (requestOf frame) requestAnswer nothing (λ r left. requestAnswer r ≡ readRequest frame)
   -- "Taking in a piece: the frame's reasons, then 7 (L), 12, 9, 10, 11"
   pub takes : (number l : ℕ) (lent : Lent) (frame : List ℕ) → let s = receptionIn number l lent in
-      Answers (frameChecks s frame) (newIn s (ofPiece (pieceIn frame))) addedAnswer lent
+      Answers (frameChecks s frame) (takenNew s (pieceIn frame)) addedAnswer lent
       (λ r left. TakesFrame s frame r (left .map) (left .buffer))
   -- .. and of a piece that was read before: 7 (L), 12, 9, 10, 11
   pub takes-piece : (number l : ℕ) (lent : Lent) (x : Piece) → let s = receptionIn number l lent in
-      Answers (takingChecks s x) (newIn s (ofPiece x)) addedAnswer lent (λ r left. Takes s x r (left .map) (left .buffer))
+      Answers (takingChecks s x) (takenNew s x) addedAnswer lent (λ r left. Takes s x r (left .map) (left .buffer))
   -- "Opening: 7, 12"
   pub opens : (l : ℕ) (lent : Lent)
       → Answers (openingChecks l (lent .map) (lent .buffer)) tt outcome lent
       (λ r left. Opens l (lent .map) (lent .buffer) r (left .map) (left .buffer))
   -- "Joining: 7 and 12 (each for either reception), 9, 11"
   pub joins : (number l : ℕ) (lent : Lent) (t : Reception) → let s = receptionIn number l lent in
-      Answers (joiningChecks s t) (newIn s (ofReception t)) addedAnswer lent (λ r left. Joins s t r (left .map) (left .buffer))
+      Answers (joiningChecks s t) (joinedNew s t) addedAnswer lent (λ r left. Joins s t r (left .map) (left .buffer))
   -- "Listing: 7, 12, 15"
   pub lists : (l : ℕ) (map : List ℕ) (place : ℕ)
       → Answers (listingChecks l map place) (holeFrom l map place) listedAnswer nothing (λ r left. listedAnswer r ≡ listing l map place)

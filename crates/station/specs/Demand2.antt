@@ -48,11 +48,12 @@ use Rattle.record.specs.Loading.{loading, loaded}
 use Rattle.record.specs.GivenBack.{GivesBack}
 
 -- a station that can send requests: both addresses can be written, the file's number has four bytes, the target has room for the frame of
--- its first request (no other of the run is longer), the length is in range and the map long enough
+-- each request that is written (of a run the first is the longest), the length is in range and the map long enough
 pub record CanSend (w : Wanted) (target : List ℕ) : Type 0 where
   pub addresses : (isWritable (w .head .destination) && isWritable (w .head .source)) ≡ true
   pub numbered : w .number < 256 ^ 4
-  pub room : frameLength (length (holesFrom w 0)) ≤ length target
+  pub room : (place : ℕ) (hole : Hole) → listing (w .length) (w .map) place ≡ accepted hole
+      → frameLength (length (holesFrom w place)) ≤ length target
   pub right : wrongLength (w .length) ≡ false
   pub mapped : mapSize (w .length) ≤ length (w .map)
 

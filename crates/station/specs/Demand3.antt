@@ -30,7 +30,7 @@ use Rattle.record.specs.Loading.{loaded, Loads}
 use Rattle.station.specs.Lent.{Lent, receptionIn}
 use Rattle.station.specs.Taking.{pieceIn, takingFrame, takenFrame, TakesFrame}
 use Rattle.station.specs.Sequences.{takenFrames, inPiece, coveredIn, fitsFile, covered, Among}
-use Rattle.station.specs.Stations.{Station, fresh, receptionOf, Made}
+use Rattle.station.specs.Stations.{Station, fresh, receptionOf, Made, framesIn}
 use Rattle.station.specs.Calls.{Calls}
 
 -- For a file with a number and a length that can be opened. A `Station` has lent space of any sufficient length, and takes in any
@@ -76,11 +76,12 @@ pub record Demand3 (number l : ℕ) (file : List ℕ) : Type 0 where
   pub join-is-any-station : (a b c : Station number l file)
       → ((p : ℕ) → covered number l (c .frames) p ≡ (covered number l (a .frames) p || covered number l (b .frames) p))
       → itself (joined (receptionOf a) (receptionOf b)) ≡ itself (receptionOf c)
-  -- Every reception that is `Made`, by opening, taking frames in, joining, saving and loading in any order, is what one station would hold,
-  -- in all that was lent; a station's is among them. So it holds what some frames cover.
-  pub made-is-a-station : (s : Reception) → Made number l file s → (a : Station number l file) × (receptionOf a ≡ s)
-  pub stations-are-made : (a : Station number l file) → Made number l file (receptionOf a)
-  pub made-holds : (s : Reception) → Made number l file s → (frames : List (List ℕ)) × HoldsOf number l file (covered number l frames) s
+  -- Every reception that is `Made`, by opening, taking frames in, joining, saving and loading in any order, is what one station would hold
+  -- after all frames that went into it, in all that was lent; a station's is among them. So it holds what those frames cover.
+  pub made-is-a-station : (s : Reception) (m : Made number l file s)
+      → (a : Station number l file) × ((a .frames ≡ framesIn m) × (receptionOf a ≡ s))
+  pub stations-are-made : (a : Station number l file) → (m : Made number l file (receptionOf a)) × (framesIn m ≡ a .frames)
+  pub made-holds : (s : Reception) (m : Made number l file s) → HoldsOf number l file (covered number l (framesIn m)) s
   -- A frame that fits and agrees is accepted, and the count is that of its positions that are not held yet: 0 if all are, and then nothing
   -- changes. Any other frame is refused, and changes nothing.
   pub fitting-is-taken : (s : Reception) → Made number l file s → (frame : List ℕ) → fitsFile number l frame ≡ true

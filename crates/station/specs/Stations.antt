@@ -2,7 +2,7 @@
 -- Assumes nothing.
 use mathlib.Core.Path.{_≡_}
 use mathlib.Core.Bool.{true, false}
-use mathlib.Core.List.{List}
+use mathlib.Core.List.{List, [], _∷_, _++_}
 use Prim.Native.Nat.{ℕ, _^_, _<_}
 use Rattle.reason.specs.Answer.{accepted}
 use Rattle.octets.specs.Numbers.{AllBytes}
@@ -46,3 +46,10 @@ pub data Made (number l : ℕ) (file : List ℕ) : Reception → Type 0 where
   -- four bytes, as the record's has
   by-loading : (s : Reception) (map buffer : List ℕ) → Made number l file s → number < 256 ^ 4 → AllBytes map → shortSpace l map buffer ≡ false
       → Made number l file (loaded (recordOf s) map buffer)
+
+-- the frames that went into it: its own, and those of what was joined into it; saving and loading add none
+abbrev pub framesIn : {number l : ℕ} {file : List ℕ} {s : Reception} → Made number l file s → List (List ℕ)
+framesIn (by-opening map buffer bytes opens) = []
+framesIn (by-taking s frame m agree) = framesIn m ++ frame ∷ []
+framesIn (by-joining s t m n) = framesIn m ++ framesIn n
+framesIn (by-loading s map buffer m four bytes room) = framesIn m

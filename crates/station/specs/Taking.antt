@@ -7,8 +7,8 @@ use Rattle.reason.specs.Order.{Check, firstOf}
 use Rattle.frame.specs.Piece.{pieceOrder, pieceOf, pieceData}
 use Rattle.reception.specs.declared.Added.{Added}
 use Rattle.reception.specs.Reception.{Reception, Piece}
-use Rattle.reception.specs.Adding.{ofPiece, newIn, after, Adds}
-use Rattle.reception.specs.Taking.{takingChecks}
+use Rattle.reception.specs.Adding.{ofPiece, after, Adds}
+use Rattle.reception.specs.Taking.{takingChecks, takenNew}
 
 -- the piece in a frame: the number of its file, its offset, and the bytes between the nine header bytes and the two check bytes
 abbrev pub pieceIn : List ℕ → Piece
@@ -20,7 +20,7 @@ frameChecks s frame = pieceOrder frame ++ takingChecks s (pieceIn frame)
 
 -- the answer: the count of newly held positions, or the reason
 unfoldable pub takingFrame : Reception → List ℕ → Answer ℕ
-takingFrame s frame = firstOf (frameChecks s frame) (newIn s (ofPiece (pieceIn frame)))
+takingFrame s frame = firstOf (frameChecks s frame) (takenNew s (pieceIn frame))
 
 -- the reception afterwards
 abbrev pub takenFrame : Reception → List ℕ → Reception
