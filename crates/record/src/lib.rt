@@ -43,8 +43,8 @@ const MAP_FIELD: usize = LENGTH_AT + NUMBER_SIZE;
 const MAP_AT: usize = MAP_FIELD + BEFORE_DATA;
 
 // How many bytes the record of the longest file has: no record is larger (`proofs/RoundTrip.antt`,
-// `never-larger` and `largest-is`). The hole program lends an array of one byte more under a promise that names
-// what it must be.
+// `never-larger` and `largest-is`). The hole program lends an array of one byte more where its promise asks for more
+// than the largest record has.
 pub const LARGEST: usize = MAP_AT + (LONGEST as usize + 7) / 8 + BEFORE_DATA + LONGEST as usize;
 
 // What saving answers: the record's size, or the number of the reason.

@@ -28,8 +28,8 @@ ghost use Rattle.request.specs.Writing.{Fills, starting};
 pub const MOST_HOLES: u32 = 49;
 
 // How many bytes a frame of the most holes has: a target of this length is never too short
-// (`proofs/EnoughRoom.antt`). `write_start` compares with the first summand, and `write_fill` lends an array
-// of the second, each under a promise that names what it must be.
+// (`proofs/EnoughRoom.antt`). `write_start` compares with the first summand under a promise that names what it
+// must be, and `write_fill` lends an array of the second where that asks for what it must at least be.
 pub const LONGEST_REQUEST: usize = HOLES_AT + ENTRIES;
 
 // The flags of a request for the start and of one that lists holes, and the block size of both.
