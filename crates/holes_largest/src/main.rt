@@ -1,4 +1,0 @@
-// The hole program, on the largest record, with 16,384 holes.
-fn main() {
-    hole_program::run();
-}

@@ -1,0 +1,4 @@
+// The hole program, on no input at all.
+fn main() {
+    program_holes::run();
+}
