@@ -10,13 +10,13 @@ use native.Mathlib.Omega.{arith}
 use lib.ListN.{length, getD, set, take, drop, length-append, length-drop, take-append-drop, List·getD-append}
 use lib.Seq.{length-take-le, set-split, set-append-left, take-set-lt, take-suc-set, append-snoc, take-at, drop-drop, drop-append-add, getD-append-add, getD-take, getD-drop, ext-getD}
 use borrow.Author.Tests.{le-leb, lt-leb}
-use Rattle.octets.specs.Runs.{fits, putIn, Put}
+use Rattle.octets.specs.Runs.{hasRoom, putIn, Put}
 use Rattle.octets.specs.Values.{valuesFrom}
 use Rattle.octets.proofs.ValueLaws.{values-long, values-join}
 
 -- what a caller learns of `put`, from the room and from its answer
 module _ (out : List ℕ) (at : ℕ) (run : List ℕ) (r : Bool) (left : List ℕ) (p : Put out at run r left) where
-  pub put-by : (b : Bool) → fits out at run ≡ b → (r ≡ b) × (left ≡ cond b (putIn out at run) out)
+  pub put-by : (b : Bool) → hasRoom out at run ≡ b → (r ≡ b) × (left ≡ cond b (putIn out at run) out)
   put-by b e = (p .answer ∙ e, p .bytes ∙ ap (λ (x : Bool). cond x (putIn out at run) out) e)
 
   -- with room, the run is written; without, nothing changes
@@ -27,8 +27,8 @@ module _ (out : List ℕ) (at : ℕ) (run : List ℕ) (r : Bool) (left : List �
   put-short h = put-by false (lt-leb (at + length run) (length out) h)
 
   -- its answer says whether there was room
-  pub put-told : (b : Bool) → r ≡ b → (fits out at run ≡ b) × (left ≡ cond b (putIn out at run) out)
-  put-told b e = let f : fits out at run ≡ b = sym (p .answer) ∙ e in (f, put-by b f .1)
+  pub put-told : (b : Bool) → r ≡ b → (hasRoom out at run ≡ b) × (left ≡ cond b (putIn out at run) out)
+  put-told b e = let f : hasRoom out at run ≡ b = sym (p .answer) ∙ e in (f, put-by b f .1)
 
 module _ (out : List ℕ) (at : ℕ) (run : List ℕ) (h : at + length run ≤ length out) where
   -- what stands before the end of the run

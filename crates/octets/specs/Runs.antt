@@ -9,8 +9,8 @@ use lib.Dec.{leb}
 use lib.ListN.{length, take, drop}
 
 -- the run fits: it ends by the end of the list
-abbrev pub fits : List ℕ → ℕ → List ℕ → Bool
-fits out at run = leb (at + length run) (length out)
+abbrev pub hasRoom : List ℕ → ℕ → List ℕ → Bool
+hasRoom out at run = leb (at + length run) (length out)
 
 -- the list with the run from the place on, and all else as it was
 unfoldable pub putIn : List ℕ → ℕ → List ℕ → List ℕ
@@ -18,5 +18,5 @@ putIn out at run = take at out ++ run ++ drop (at + length run) out
 
 -- What `put` promises: it answers whether the run fits, and leaves the list with the run where it does, and else as it was.
 pub record Put (out : List ℕ) (at : ℕ) (run : List ℕ) (r : Bool) (left : List ℕ) : Type 0 where
-  pub answer : r ≡ fits out at run
-  pub bytes : left ≡ cond (fits out at run) (putIn out at run) out
+  pub answer : r ≡ hasRoom out at run
+  pub bytes : left ≡ cond (hasRoom out at run) (putIn out at run) out

@@ -1,8 +1,9 @@
 -- A map's bits, and questions over positions, by computation.
 -- Assumes nothing.
 use mathlib.Core.Path.{_≡_, refl}
-use mathlib.Core.Bool.{true, false}
+use mathlib.Core.Bool.{true, false, not}
 use mathlib.Core.List.{[], _∷_}
+use Prim.Native.Nat.{_-_}
 use lib.Dec.{eqb, leb}
 use Rattle.positions.specs.Spans.{within, every, count, first}
 use Rattle.positions.specs.Map.{bit, held, mapSize, bitsFrom, mapOf}
@@ -34,6 +35,13 @@ pub record Cases : Type 0 where
   pub how-many : count (leb 3) 1 4 ≡ 2
   pub the-first : first (leb 3) 1 4 ≡ 3
   pub none-passes : first (leb 9) 1 4 ≡ 5
+  -- the first held and the first unheld position of a map: found, none below n, beyond the map, and n not above the place
+  pub held-12 : first (held (0x00 ∷ 0x10 ∷ [])) 3 (16 - 3) ≡ 12
+  pub none-below-12 : first (held (0x00 ∷ 0x10 ∷ [])) 3 (12 - 3) ≡ 12
+  pub none-held-beyond : first (held (0x00 ∷ 0x10 ∷ [])) 13 (40 - 13) ≡ 40
+  pub none-above : first (held (0xFF ∷ [])) 9 (4 - 9) ≡ 9
+  pub unheld-12 : first (λ p. not (held (0xFF ∷ 0xEF ∷ []) p)) 3 (16 - 3) ≡ 12
+  pub unheld-beyond : first (λ p. not (held (0xFF ∷ []) p)) 3 (40 - 3) ≡ 8
 
 pub cases : Cases
 unfolding every count first bit held bitsFrom mapOf
@@ -60,4 +68,10 @@ cases = record {
   how-many = refl;
   the-first = refl;
   none-passes = refl;
+  held-12 = refl;
+  none-below-12 = refl;
+  none-held-beyond = refl;
+  none-above = refl;
+  unheld-12 = refl;
+  unheld-beyond = refl;
 }

@@ -4,13 +4,14 @@ use mathlib.Core.Path.{_≡_, refl, sym, ap, ap₂, _∙_}
 use mathlib.Core.Bool.{Bool, true, false, cond, _||_, or-true, or-false}
 use mathlib.Core.Logic.{⊎-elim}
 use mathlib.Core.List.{List}
-use Prim.Native.Nat.{ℕ, _+_, _*_, _/_, _%_, _^_, _≤_, _<_, max}
-use native.Mathlib.Nat.{zero-div, max-zero, zero-add, add-zero}
+use Prim.Native.Nat.{ℕ, _+_, _-_, _*_, _/_, _%_, _^_, _≤_, _<_, max}
+use native.Mathlib.Nat.{zero-div, max-zero, zero-add, add-zero, mod-lt}
 use native.Mathlib.Decide.{ℕ-discrete}
 use native.Mathlib.Omega.{arith}
 use lib.ListN.{length, set, List·getD-eq-default}
 use lib.Seq.{getD-set-same, getD-set-other, ext-getD}
 use lib.Bits.{bitOr}
+use lib.Pow.{pow-pos}
 use lib.Count.{ones}
 use lib.Dec.{eqb}
 use borrow.Author.Tests.{eq-eqb, ne-eqb, eqb-true, eqb-false}
@@ -19,7 +20,7 @@ use Rattle.octets.specs.Numbers.{byteAt, AllBytes}
 use Rattle.octets.proofs.ValueLaws.{value-at, same-values, values-long}
 use Rattle.positions.specs.Spans.{count}
 use Rattle.positions.specs.Map.{bit, isSet, held, bitsFrom, mapOf}
-use Rattle.positions.proofs.BitLaws.{bit-lt, bits-ext, bit-or, bit-pow-same, bit-pow-other, bits-below, bit-from, ones-count}
+use Rattle.positions.proofs.BitLaws.{bit-lt, bits-ext, bit-or, bit-pow-same, bit-pow-other, bits-below, bit-from, set-low, ones-count}
 use Rattle.positions.proofs.SpanLaws.{count-same, count-moved, count-split}
 
 -- ---- one position and its byte
@@ -29,6 +30,10 @@ held-in m i k h =
     let q : (i * 8 + k) / 8 ≡ i = omega arith in
     let r : (i * 8 + k) % 8 ≡ k = omega arith in
     rw (q, r)
+
+-- a position of an aligned byte, by its bit
+pub bit-of : (m : List ℕ) (from q : ℕ) → from % 8 ≡ 0 → from ≤ q → q < from + 8 → isSet (byteAt m (from / 8)) (q - from) ≡ held m q
+bit-of m from q a l g = let e : from / 8 * 8 + (q - from) ≡ q = omega arith in sym (held-in m (from / 8) (q - from) (omega arith)) ∙ ap (held m) e
 
 pub held-by : (m : List ℕ) (p : ℕ) → held m p ≡ isSet (byteAt m (p / 8)) (p % 8)
 unfolding held
@@ -67,7 +72,25 @@ count-byte m i h =
     ∙ sym (count-split (held m) 0 (i * 8) 8)
     ∙ ap (count (held m) 0) e
 
+-- .. and of the lowest bits of the byte behind them
+pub count-low : (m : List ℕ) (i k : ℕ) → k ≤ 8 → count (held m) 0 (i * 8) + ones (byteAt m i % 2 ^ k) ≡ count (held m) 0 (i * 8 + k)
+count-low m i k h =
+    ap (λ (n : ℕ). count (held m) 0 (i * 8) + n)
+    (ones-count k (byteAt m i % 2 ^ k) (mod-lt (byteAt m i) (pow-pos k))
+    ∙ count-same (isSet (byteAt m i % 2 ^ k)) (λ j. held m (i * 8 + j)) 0 k (λ j _ l. set-low k (byteAt m i) j (omega arith) ∙ sym (held-in m i j (omega arith)))
+    ∙ sym (count-moved (held m) (i * 8) 0 k)
+    ∙ ap (λ (p : ℕ). count (held m) p k) (add-zero (i * 8) ∙ sym (zero-add (i * 8))))
+    ∙ sym (count-split (held m) 0 (i * 8) k)
+
 -- ---- one byte changed
+-- bytes stay bytes
+pub set-bytes : (m : List ℕ) (i b : ℕ) → i < length m → AllBytes m → b < 256 → AllBytes (set m i b)
+set-bytes m i b h all small j =
+    elim (ℕ-discrete j i) [
+      | yes e ↦ rw (e, getD-set-same m i b 0 h) small
+      | no d ↦ rw (getD-set-other m i j b 0 d) (all j)
+    ]
+
 pub held-set : (m : List ℕ) (i b p : ℕ) → i < length m → p / 8 ≡ i → held (set m i b) p ≡ isSet b (p % 8)
 held-set m i b p h e = held-by (set m i b) p ∙ ap (λ (x : ℕ). isSet x (p % 8)) (ap (λ (j : ℕ). byteAt (set m i b) j) e ∙ getD-set-same m i b 0 h)
 

@@ -1,33 +1,24 @@
 -- The cases of 01 that a reception decides, and both sides of its limits, by computation.
 -- Assumes nothing.
 use mathlib.Core.Path.{_≡_, refl}
-use mathlib.Core.Bool.{true, false, false≢true}
+use mathlib.Core.Bool.{true, false}
 use mathlib.Core.List.{List, [], _∷_, _++_}
-use Prim.Native.Nat.{ℕ, zero, suc}
-use native.Mathlib.Nat.{le-of-suc-le-suc, not-suc-le-zero}
-use lib.Dec.{lit<}
+use Prim.Native.Nat.{ℕ}
 use lib.ListN.{replicate}
-use Rattle.reason.specs.Answer.{Answer, accepted, refused}
+use Rattle.reason.specs.Answer.{accepted, refused}
 use Rattle.reason.specs.Order.{firstOf}
-use Rattle.octets.specs.Numbers.{AllBytes}
-use Rattle.positions.specs.Spans.{every, count, first}
+use Rattle.positions.specs.Spans.{every, count}
 use Rattle.positions.specs.Map.{bit, held, bitsFrom, mapOf}
-use Rattle.reception.specs.Reception.{Reception, Piece}
+use Rattle.reception.specs.Reception.{Reception, PieceData}
 use Rattle.reception.specs.Adding.{addedAnswer}
 use Rattle.reception.specs.Opening.{opening, opened}
 use Rattle.reception.specs.Taking.{taking, taken}
 use Rattle.reception.specs.Joining.{joining, joined}
-use Rattle.reception.specs.Listing.{listing, listedAnswer}
-use Rattle.reception.specs.EveryHole.{listedFrom}
 use Rattle.reception.specs.Held.{heldOf, heldCount}
-use Rattle.reception.specs.Sequences.{takenAll, AgreesWith}
-use Rattle.reception.specs.Stations.{Station, receptionOf}
 use Rattle.reception.specs.declared.Added.the-variants as added
-use Rattle.reception.specs.declared.Listed.the-variants as listed
-use Rattle.reception.specs.declared.Hole.{Hole}
 
 -- a piece of file 7
-abbrev piece : ℕ → List ℕ → Piece
+abbrev piece : ℕ → List ℕ → PieceData
 piece offset bytes = record { number = 7; offset = offset; bytes = bytes }
 
 -- a reception of file 7, length 20
@@ -35,10 +26,10 @@ abbrev twenty : List ℕ → List ℕ → Reception
 twenty map buffer = record { number = 7; length = 20; map = map; buffer = buffer }
 
 -- positions 0 to 3 and 8 to 9 held: 01's example
-abbrev first-piece : Piece
+abbrev first-piece : PieceData
 first-piece = piece 0 (0x41 ∷ 0x42 ∷ 0x43 ∷ 0x44 ∷ [])
 
-abbrev second-piece : Piece
+abbrev second-piece : PieceData
 second-piece = piece 8 (0x45 ∷ 0x46 ∷ [])
 
 abbrev buffer20 : List ℕ
@@ -65,45 +56,15 @@ lent-map = 0x0F ∷ 0x03 ∷ 0xF0 ∷ 0xA5 ∷ []
 abbrev lent-buffer : List ℕ
 lent-buffer = 0x41 ∷ 0x42 ∷ 0x43 ∷ 0x44 ∷ 0x91 ∷ 0x92 ∷ 0x93 ∷ 0x94 ∷ 0x45 ∷ 0x46 ∷ replicate 10 0x95 ++ 0x96 ∷ 0x97 ∷ []
 
-abbrev hole : ℕ → ℕ → Answer Hole
-hole start size = accepted (record { start = start; length = size })
+-- one opened in longer space that takes in a late piece first, an early one, the late one again, one of another file and one too far
+abbrev after-five : Reception
+after-five =
+    taken (taken (taken (taken (taken (opened 7 20 lent-map lent-buffer) second-piece) first-piece) second-piece)
+    (record { number = 8; offset = 0; bytes = 0x99 ∷ [] })) (piece 19 (0x99 ∷ 0x99 ∷ []))
 
--- a file of 20 bytes, and a station that takes in pieces of it: late ones first, one twice, one of another file, one too far
-abbrev a-file : List ℕ
-a-file = 0x41 ∷ 0x42 ∷ 0x43 ∷ 0x44 ∷ 0x48 ∷ 0x49 ∷ 0x4A ∷ 0x4B ∷ 0x45 ∷ 0x46 ∷ replicate 10 0x4C
-
-pub bytes-lent : AllBytes lent-map
-bytes-lent zero = lit< tt
-bytes-lent (suc zero) = lit< tt
-bytes-lent (suc (suc zero)) = lit< tt
-bytes-lent (suc (suc (suc zero))) = lit< tt
-bytes-lent (suc (suc (suc (suc i)))) = lit< tt
-
-pub first-agrees : AgreesWith a-file first-piece
-first-agrees zero h = refl
-first-agrees (suc zero) h = refl
-first-agrees (suc (suc zero)) h = refl
-first-agrees (suc (suc (suc zero))) h = refl
-first-agrees (suc (suc (suc (suc i)))) h = absurd (not-suc-le-zero (le-of-suc-le-suc (le-of-suc-le-suc (le-of-suc-le-suc (le-of-suc-le-suc h)))))
-
-pub second-agrees : AgreesWith a-file second-piece
-second-agrees zero h = refl
-second-agrees (suc zero) h = refl
-second-agrees (suc (suc i)) h = absurd (not-suc-le-zero (le-of-suc-le-suc (le-of-suc-le-suc h)))
-
-pub opens-20 : opening 20 lent-map lent-buffer ≡ accepted tt
-unfolding firstOf opening
-opens-20 = refl
-
-abbrev a-station : Station 7 20 a-file
-a-station = record {
-  map = lent-map;
-  buffer = lent-buffer;
-  bytes = bytes-lent;
-  opens = opens-20;
-  pieces = second-piece ∷ first-piece ∷ second-piece ∷ record { number = 8; offset = 0; bytes = 0x99 ∷ [] } ∷ piece 19 (0x99 ∷ 0x99 ∷ []) ∷ [];
-  agree = (λ _. second-agrees, (λ _. first-agrees, (λ _. second-agrees, (λ e. absurd (false≢true e), (λ e. absurd (false≢true e), tt)))));
-}
+-- two pieces taken in, one after the other
+abbrev after-two : PieceData → PieceData → Reception
+after-two x y = taken (taken (opened 7 20 (replicate 3 0xFF) (replicate 20 0xFF)) x) y
 
 pub record Cases : Type 0 where
   -- opening
@@ -122,9 +83,9 @@ pub record Cases : Type 0 where
   pub opened-buffer : opened 7 20 lent-map lent-buffer .buffer ≡ replicate 20 0 ++ 0x96 ∷ 0x97 ∷ []
   -- taking pieces in
   pub first-taken : taking (opened 7 20 (replicate 3 0xFF) (replicate 20 0xFF)) first-piece ≡ accepted 4
-  pub two-pieces-map : takenAll (opened 7 20 (replicate 3 0xFF) (replicate 20 0xFF)) (first-piece ∷ second-piece ∷ []) .map ≡ 0x0F ∷ 0x03 ∷ 0x00 ∷ []
-  pub two-pieces-buffer : takenAll (opened 7 20 (replicate 3 0xFF) (replicate 20 0xFF)) (first-piece ∷ second-piece ∷ []) .buffer ≡ buffer20
-  pub two-pieces-swapped : takenAll (opened 7 20 (replicate 3 0xFF) (replicate 20 0xFF)) (second-piece ∷ first-piece ∷ []) ≡ example
+  pub two-pieces-map : after-two first-piece second-piece .map ≡ 0x0F ∷ 0x03 ∷ 0x00 ∷ []
+  pub two-pieces-buffer : after-two first-piece second-piece .buffer ≡ buffer20
+  pub two-pieces-swapped : after-two second-piece first-piece ≡ example
   pub last-byte : taking longest-file (piece 32767 (0x41 ∷ [])) ≡ accepted 1
   pub past-the-end : taking longest-file (piece 32768 (0x41 ∷ [])) ≡ refused 10
   pub offset-65536 : taking longest-file (piece 65536 (0x41 ∷ [])) ≡ refused 10
@@ -183,26 +144,6 @@ pub record Cases : Type 0 where
       ≡ 0x41 ∷ 0x42 ∷ 0x43 ∷ 0x44 ∷ 0x99 ∷ 0x92 ∷ 0x93 ∷ 0x94 ∷ 0x45 ∷ 0x46 ∷ replicate 10 0x95 ++ 0x96 ∷ 0x97 ∷ []
   pub join-second-longer : joining front (twenty (0x10 ∷ 0x00 ∷ 0xF0 ∷ 0xFF ∷ []) (replicate 32 0x99)) ≡ accepted 1
   pub join-second-longer-map : joined front (twenty (0x10 ∷ 0x00 ∷ 0xF0 ∷ 0xFF ∷ []) (replicate 32 0x99)) .map ≡ 0x1F ∷ 0x00 ∷ 0x00 ∷ []
-  -- listing
-  pub first-hole : listing 20 (0x0F ∷ 0x03 ∷ 0x00 ∷ []) 0 ≡ hole 4 4
-  pub hole-at-place : listing 20 (0x0F ∷ 0x03 ∷ 0x00 ∷ []) 4 ≡ hole 4 4
-  pub place-in-hole : listing 20 (0x0F ∷ 0x03 ∷ 0x00 ∷ []) 5 ≡ hole 10 10
-  pub second-hole : listing 20 (0x0F ∷ 0x03 ∷ 0x00 ∷ []) 8 ≡ hole 10 10
-  pub no-more : listing 20 (0x0F ∷ 0x03 ∷ 0x00 ∷ []) 11 ≡ refused 15
-  pub all-listed : listedFrom 20 20 (0x0F ∷ 0x03 ∷ 0x00 ∷ []) 0 ≡ record { start = 4; length = 4 } ∷ record { start = 10; length = 10 } ∷ []
-  pub place-at-end : listing 20 (0x0F ∷ 0x03 ∷ 0x00 ∷ []) 20 ≡ refused 15
-  pub place-beyond : listing 20 (0x0F ∷ 0x03 ∷ 0x00 ∷ []) 4294967295 ≡ refused 15
-  pub place-65536 : listing 20 (0x0F ∷ 0x03 ∷ 0x00 ∷ []) 65536 ≡ refused 15
-  pub over-a-byte : listing 20 (0x0F ∷ 0xF0 ∷ 0x0F ∷ []) 0 ≡ hole 4 8
-  pub nothing-held : listing 20 (0x00 ∷ 0x00 ∷ 0x00 ∷ []) 0 ≡ hole 0 20
-  pub nothing-held-spare-set : listing 20 (0x00 ∷ 0x00 ∷ 0xF0 ∷ []) 0 ≡ hole 0 20
-  pub all-held : listing 20 (0xFF ∷ 0xFF ∷ 0x0F ∷ []) 0 ≡ refused 15
-  pub last-position : listing 20 (0xFF ∷ 0xFF ∷ 0xF7 ∷ []) 0 ≡ hole 19 1
-  pub list-length : listing 0 [] 0 ≡ refused 7
-  pub list-length-32769 : listing 32769 (replicate 4097 0) 0 ≡ refused 7
-  pub list-seven-before-twelve : listing 32769 [] 0 ≡ refused 7
-  pub list-longer-map : listing 20 lent-map 10 ≡ hole 10 10
-  pub list-short : listing 20 (0x0F ∷ 0x03 ∷ []) 20 ≡ refused 12
   -- what a host asks
   pub held-3 : heldOf 20 lent-map 3 ≡ true
   pub not-held-4 : heldOf 20 lent-map 4 ≡ false
@@ -217,14 +158,12 @@ pub record Cases : Type 0 where
   -- the paper's number and values of each answer
   pub added-accepted : addedAnswer (added.Accepted 6) ≡ accepted 6
   pub added-refused : addedAnswer (added.Refused 11) ≡ refused 11
-  pub listed-accepted : listedAnswer (listed.Accepted (record { start = 4; length = 6 })) ≡ hole 4 6
-  pub listed-refused : listedAnswer (listed.Refused 15) ≡ refused 15
-  -- a station with longer lent space: repeats, any order, a piece of another file, a piece beyond the end
-  pub station-map : receptionOf a-station .map ≡ 0x0F ∷ 0x03 ∷ 0x00 ∷ 0xA5 ∷ []
-  pub station-buffer : receptionOf a-station .buffer ≡ buffer20 ++ 0x96 ∷ 0x97 ∷ []
+  -- longer lent space: a repeat, any order, a piece of another file, a piece beyond the end
+  pub five-pieces-map : after-five .map ≡ 0x0F ∷ 0x03 ∷ 0x00 ∷ 0xA5 ∷ []
+  pub five-pieces-buffer : after-five .buffer ≡ buffer20 ++ 0x96 ∷ 0x97 ∷ []
 
 pub cases : Cases
-unfolding firstOf every count first bit held bitsFrom mapOf opening taking joining listing
+unfolding firstOf every count bit held bitsFrom mapOf opening taking joining
 cases = record {
   length-0 = refl;
   length-1 = refl;
@@ -298,25 +237,6 @@ cases = record {
   join-keeps-unheld = refl;
   join-second-longer = refl;
   join-second-longer-map = refl;
-  first-hole = refl;
-  hole-at-place = refl;
-  place-in-hole = refl;
-  second-hole = refl;
-  no-more = refl;
-  all-listed = refl;
-  place-at-end = refl;
-  place-beyond = refl;
-  place-65536 = refl;
-  over-a-byte = refl;
-  nothing-held = refl;
-  nothing-held-spare-set = refl;
-  all-held = refl;
-  last-position = refl;
-  list-length = refl;
-  list-length-32769 = refl;
-  list-seven-before-twelve = refl;
-  list-longer-map = refl;
-  list-short = refl;
   held-3 = refl;
   not-held-4 = refl;
   spare-is-not-held = refl;
@@ -329,8 +249,6 @@ cases = record {
   held-in-longer-map = refl;
   added-accepted = refl;
   added-refused = refl;
-  listed-accepted = refl;
-  listed-refused = refl;
-  station-map = refl;
-  station-buffer = refl;
+  five-pieces-map = refl;
+  five-pieces-buffer = refl;
 }

@@ -6,19 +6,17 @@ use mathlib.Core.List.{List, [], _∷_}
 use Prim.Native.Nat.{ℕ, _+_, _≤_, _<_}
 use lib.Dec.{eqb}
 use lib.ListN.{length}
-use borrow.Author.Tests.{eq-eqb, ne-eqb, le-leb, lt-leb, le-ltb, lt-ltb}
+use borrow.Author.Tests.{eq-eqb, ne-eqb, le-ltb, lt-ltb}
 use Rattle.reason.specs.Answer.{accepted, refused, leaving}
 use Rattle.reason.specs.declared.Outcome.the-variants.{Accepted, Refused}
 use Rattle.reason.specs.Order.{check, firstOf}
 use Rattle.reason.proofs.OrderLaws.{accepted-only-if, skip, stop, none-left}
 use Rattle.positions.specs.Map.{mapSize}
-use Rattle.reception.specs.Reception.{Reception, Piece, wrongLength, shortSpace}
+use Rattle.reception.specs.Reception.{Reception, PieceData, wrongLength, shortSpace}
 use Rattle.reception.specs.Adding.{ofReception, agrees}
 use Rattle.reception.specs.Opening.{cleared, openingChecks, opening, Opens}
 use Rattle.reception.specs.Taking.{disagrees, taking, takenNew}
 use Rattle.reception.specs.Joining.{joining, joinedNew}
-use Rattle.reception.specs.Holes.{holeStart, holeFrom}
-use Rattle.reception.specs.Listing.{listing}
 
 -- ---- opening
 module _ (l : ℕ) (map buffer : List ℕ) where
@@ -58,7 +56,7 @@ module _ (l : ℕ) (map buffer : List ℕ) where
   }
 
 -- ---- taking
-module _ (s : Reception) (x : Piece) where
+module _ (s : Reception) (x : PieceData) where
   pub takes-7 : wrongLength (s .length) ≡ true → taking s x ≡ refused 7
   unfolding taking
   takes-7 e = stop 7 _ _ e
@@ -123,23 +121,3 @@ module _ (s t : Reception) where
 
         pub joins : agrees s (ofReception t) ≡ true → joining s t ≡ accepted (joinedNew s t)
         joins e = rest ∙ skip 11 _ _ (ap not e) ∙ none-left _
-
--- ---- listing
-module _ (l : ℕ) (map : List ℕ) (place : ℕ) where
-  pub lists-7 : wrongLength l ≡ true → listing l map place ≡ refused 7
-  unfolding listing
-  lists-7 e = stop 7 _ _ e
-
-  module _ (right : wrongLength l ≡ false) where
-    pub lists-12 : length map < mapSize l → listing l map place ≡ refused 12
-    unfolding listing
-    lists-12 h = skip 7 _ _ right ∙ stop 12 _ _ (lt-ltb (length map) (mapSize l) h)
-
-    module _ (room : mapSize l ≤ length map) where
-      pub lists-15 : l ≤ holeStart l map place → listing l map place ≡ refused 15
-      unfolding listing
-      lists-15 h = skip 7 _ _ right ∙ skip 12 _ _ (le-ltb (length map) (mapSize l) room) ∙ stop 15 _ _ (le-leb l (holeStart l map place) h)
-
-      pub lists : holeStart l map place < l → listing l map place ≡ accepted (holeFrom l map place)
-      unfolding listing
-      lists h = skip 7 _ _ right ∙ skip 12 _ _ (le-ltb (length map) (mapSize l) room) ∙ skip 15 _ _ (lt-leb l (holeStart l map place) h) ∙ none-left _

@@ -18,12 +18,12 @@ use Rattle.positions.specs.Spans.{within, count}
 use Rattle.positions.specs.Map.{held, mapSize}
 use Rattle.positions.proofs.SpanLaws.{in-span, span-low, span-high, all-if, count-same}
 use Rattle.positions.proofs.MapLaws.{empty-byte, same-byte, map-long, map-bytes, held-map}
-use Rattle.reception.specs.Reception.{Reception, Piece, wrongLength, shortSpace}
+use Rattle.reception.specs.Reception.{Reception, PieceData, wrongLength, shortSpace}
 use Rattle.reception.specs.Adding.{Offer, ofPiece, ofReception, offered, agreesAt, agrees, isNew, newIn, after}
 use Rattle.reception.specs.Opening.{cleared, opened}
 use Rattle.reception.specs.Taking.{taking, taken}
 use Rattle.reception.specs.Joining.{joining, joined}
-use Rattle.reception.specs.Sequences.{fits, covers, AgreesWith}
+use Rattle.reception.specs.Fitting.{fits, covers, AgreesWith}
 use Rattle.reception.specs.Contents.{HoldsOf, itself}
 use Rattle.reception.proofs.OfferLaws.{enough-space, piece-below, second-below}
 use Rattle.reception.proofs.GivenReasons.{takes-9, takes-10, takes, joins}
@@ -175,11 +175,11 @@ module _ (number l : ℕ) (file : List ℕ) (S : ℕ → Bool) (s : Reception) (
       ∙ neither (ltb (length (s .map)) (mapSize l)) (ltb (length (s .buffer)) l) (le-ltb (length (s .map)) (mapSize l) (h .map-long)) (le-ltb (length (s .buffer)) l (h .buffer-long))
 
 -- ---- taking a piece in
-pub fits-inside : (number l : ℕ) (x : Piece) → fits number l x ≡ true → x .offset + length (x .bytes) ≤ l
+pub fits-inside : (number l : ℕ) (x : PieceData) → fits number l x ≡ true → x .offset + length (x .bytes) ≤ l
 fits-inside number l x fit =
     leb-true (x .offset + length (x .bytes)) l (and-right (eqb number (x .number)) (leb (x .offset + length (x .bytes)) l) fit)
 
-module _ (number l : ℕ) (file : List ℕ) (ok : wrongLength l ≡ false) (S : ℕ → Bool) (s : Reception) (h : HoldsOf number l file S s) (x : Piece) where
+module _ (number l : ℕ) (file : List ℕ) (ok : wrongLength l ≡ false) (S : ℕ → Bool) (s : Reception) (h : HoldsOf number l file S s) (x : PieceData) where
   all-offered : (p : ℕ) → offered (ofPiece x) p ≡ within (x .offset) (length (x .bytes)) p
   all-offered p = and-true (within (x .offset) (length (x .bytes)) p)
 

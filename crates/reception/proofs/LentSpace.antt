@@ -17,7 +17,7 @@ use Rattle.octets.proofs.ValueLaws.{value-at, values-long}
 use Rattle.positions.specs.Spans.{within}
 use Rattle.positions.specs.Map.{held, mapSize}
 use Rattle.positions.proofs.MapLaws.{same-byte, map-long, map-bytes}
-use Rattle.reception.specs.Reception.{Reception, Piece}
+use Rattle.reception.specs.Reception.{Reception, PieceData}
 use Rattle.reception.specs.Adding.{Offer, ofPiece, ofReception, offered, isNew, newIn, mapWith, bufferWith, after}
 use Rattle.reception.specs.Opening.{cleared, opened}
 use Rattle.reception.specs.Taking.{takingChecks, taking, taken}
@@ -86,7 +86,7 @@ module _ (s : Reception) (o : Offer) (all : AllBytes (s .map)) (inside : (p : �
   added-beyond n = ap₂ (λ (m b : List ℕ). record { map = m; buffer = b }) map-beyond buffer-beyond
 
 -- ---- taking and joining, accepted or refused
-pub taken-ends : (s : Reception) (x : Piece) (n : ℕ) → taking s x ≡ accepted n → x .offset + length (x .bytes) ≤ s .length
+pub taken-ends : (s : Reception) (x : PieceData) (n : ℕ) → taking s x ≡ accepted n → x .offset + length (x .bytes) ≤ s .length
 unfolding taking
 taken-ends s x n e =
     let w = accepted-only-if (takingChecks s x) (newIn s (ofPiece x)) n e .0 in
@@ -99,13 +99,13 @@ joined-lengths s t n e =
     eqb-true (s .length) (t .length) (and-right (eqb (s .number) (t .number)) (eqb (s .length) (t .length)) (not-false _ (w .1 .1 .0)))
 
 module _ (s : Reception) (all : AllBytes (s .map)) where
-  take-by : (x : Piece) (a : Answer ℕ) → taking s x ≡ a → beyond (after s (ofPiece x) a) ≡ beyond s
+  take-by : (x : PieceData) (a : Answer ℕ) → taking s x ≡ a → beyond (after s (ofPiece x) a) ≡ beyond s
   take-by x (refused n) e = refl
   take-by x (accepted n) e =
       let k = taken-ends s x n e in
       added-beyond s (ofPiece x) all (λ p g. piece-below x (s .length) p k g) n
 
-  pub taken-beyond : (x : Piece) → beyond (taken s x) ≡ beyond s
+  pub taken-beyond : (x : PieceData) → beyond (taken s x) ≡ beyond s
   taken-beyond x = take-by x (taking s x) refl
 
   join-by : (t : Reception) (a : Answer ℕ) → joining s t ≡ a → beyond (after s (ofReception t) a) ≡ beyond s

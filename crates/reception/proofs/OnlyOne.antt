@@ -9,16 +9,12 @@ use Rattle.reason.specs.Answer.{Answer, accepted, refused}
 use Rattle.reason.proofs.OnlyOne.{only-one, only-one-meant, one-outcome}
 use Rattle.reception.specs.declared.Added.{Added}
 use Rattle.reception.specs.declared.Added.the-variants as added
-use Rattle.reception.specs.declared.Hole.{Hole}
-use Rattle.reception.specs.declared.Listed.{Listed}
-use Rattle.reception.specs.declared.Listed.the-variants as listed
 use Rattle.positions.specs.Map.{mapSize}
-use Rattle.reception.specs.Reception.{Reception, Piece, wrongLength, shortSpace}
+use Rattle.reception.specs.Reception.{Reception, PieceData, wrongLength, shortMap, shortSpace}
 use Rattle.reception.specs.Adding.{Offer, addedAnswer, Adds}
 use Rattle.reception.specs.Opening.{Opens}
 use Rattle.reception.specs.Taking.{Takes}
 use Rattle.reception.specs.Joining.{Joins}
-use Rattle.reception.specs.Listing.{listing, listedAnswer}
 use Rattle.reception.specs.Held.{heldOf, heldCount}
 
 -- `open`
@@ -42,27 +38,13 @@ pub only-one-added : (s : Reception) (o : Offer) (a : Answer ℕ) (r q : Added) 
 only-one-added s o a r q m m′ b b′ d e =
     (only-one-meant addedAnswer added-case added-back r q (d .answers) (e .answers), only-one m m′ (d .leaves-map) (e .leaves-map), only-one b b′ (d .leaves-buffer) (e .leaves-buffer))
 
-pub only-one-take : (s : Reception) (x : Piece) (r q : Added) (m m′ b b′ : List ℕ) → Takes s x r m b → Takes s x q m′ b′
+pub only-one-take : (s : Reception) (x : PieceData) (r q : Added) (m m′ b b′ : List ℕ) → Takes s x r m b → Takes s x q m′ b′
     → (r ≡ q) × (m ≡ m′) × (b ≡ b′)
 only-one-take s x r q m m′ b b′ d e = only-one-added s _ _ r q m m′ b b′ d e
 
 pub only-one-join : (s t : Reception) (r q : Added) (m m′ b b′ : List ℕ) → Joins s t r m b → Joins s t q m′ b′
     → (r ≡ q) × (m ≡ m′) × (b ≡ b′)
 only-one-join s t r q m m′ b b′ d e = only-one-added s _ _ r q m m′ b b′ d e
-
--- `list`
-listed-case : Answer Hole → Listed
-listed-case (accepted hole) = listed.Accepted hole
-listed-case (refused n) = listed.Refused n
-
-listed-back : (r : Listed) → listed-case (listedAnswer r) ≡ r
-unfolding listed-case
-listed-back (listed.Accepted hole) = refl
-listed-back (listed.Refused n) = refl
-
-pub only-one-list : (l : ℕ) (map : List ℕ) (place : ℕ) (r q : Listed) → listedAnswer r ≡ listing l map place → listedAnswer q ≡ listing l map place
-    → r ≡ q
-only-one-list l map place r q = only-one-meant listedAnswer listed-case listed-back r q
 
 -- `is_held` and `count_held`
 pub only-one-is-held : (l : ℕ) (map : List ℕ) (position : ℕ) (r q : Bool) → r ≡ heldOf l map position → q ≡ heldOf l map position → r ≡ q
@@ -71,12 +53,15 @@ only-one-is-held l map position r q = only-one r q
 pub only-one-count-held : (l : ℕ) (map : List ℕ) (r q : ℕ) → r ≡ heldCount l map → q ≡ heldCount l map → r ≡ q
 only-one-count-held l map r q = only-one r q
 
--- `wrong_length`, `map_size` and `short`
+-- `wrong_length`, `map_size`, `short_map` and `short`
 pub only-one-wrong-length : (l : ℕ) (r q : Bool) → r ≡ wrongLength l → q ≡ wrongLength l → r ≡ q
 only-one-wrong-length l r q = only-one r q
 
 pub only-one-map-size : (l r q : ℕ) → r ≡ mapSize l → q ≡ mapSize l → r ≡ q
 only-one-map-size l r q = only-one r q
+
+pub only-one-short-map : (l : ℕ) (map : List ℕ) (r q : Bool) → r ≡ shortMap l map → q ≡ shortMap l map → r ≡ q
+only-one-short-map l map r q = only-one r q
 
 pub only-one-short : (l : ℕ) (map buffer : List ℕ) (r q : Bool) → r ≡ shortSpace l map buffer → q ≡ shortSpace l map buffer → r ≡ q
 only-one-short l map buffer r q = only-one r q

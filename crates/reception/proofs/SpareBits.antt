@@ -4,7 +4,7 @@ use mathlib.Core.Path.{_≡_, refl, sym, ap, ap₂, _∙_}
 use mathlib.Core.Bool.{Bool, true, false, cond, not, _&&_, _||_}
 use mathlib.Core.Logic.{⊎-elim}
 use mathlib.Core.List.{List, [], _∷_}
-use Prim.Native.Nat.{ℕ, zero, suc, _+_, _-_, _*_, _≤_, _<_}
+use Prim.Native.Nat.{ℕ, _+_, _-_, _*_, _≤_, _<_}
 use native.Mathlib.Omega.{arith}
 use lib.Dec.{eqb, ltb}
 use lib.ListN.{length}
@@ -17,14 +17,12 @@ use Rattle.octets.specs.Numbers.{byteAt}
 use Rattle.octets.proofs.ValueLaws.{values-same}
 use Rattle.positions.specs.Spans.{within}
 use Rattle.positions.specs.Map.{held, mapSize}
-use Rattle.positions.proofs.SpanLaws.{before-span, behind-span, by-span, every-same, count-same, first-same}
+use Rattle.positions.proofs.SpanLaws.{before-span, behind-span, by-span, every-same, count-same}
 use Rattle.positions.proofs.MapLaws.{map-long, held-map, held-past}
-use Rattle.reception.specs.Reception.{Reception, Piece, wrongLength, shortSpace}
+use Rattle.reception.specs.Reception.{Reception, PieceData, wrongLength, shortSpace}
 use Rattle.reception.specs.Adding.{Offer, ofPiece, ofReception, offered, agreesAt, agrees, isNew, newIn, mapWith, bufferWith, after}
 use Rattle.reception.specs.Taking.{taking, taken}
 use Rattle.reception.specs.Joining.{joining, joined}
-use Rattle.reception.specs.Holes.{heldBefore, startsHole, holeStart, holeEnd, holeFrom}
-use Rattle.reception.specs.Listing.{listing}
 use Rattle.reception.specs.Held.{heldOf, heldCount}
 use Rattle.reception.specs.Spare.{SameBelow, withMap}
 use Rattle.reception.proofs.OfferLaws.{piece-below, second-below, held-elsewhere}
@@ -78,7 +76,7 @@ short-same : (l : ℕ) (map map′ buffer : List ℕ) → length map′ ≡ leng
 short-same l map map′ buffer e = ap (λ (n : ℕ). ltb n (mapSize l) || ltb (length buffer) l) (sym e)
 
 -- ---- taking a piece in
-module _ (s : Reception) (map : List ℕ) (below : SameBelow (s .length) (s .map) map) (x : Piece) where
+module _ (s : Reception) (map : List ℕ) (below : SameBelow (s .length) (s .map) map) (x : PieceData) where
   -- the reception with the other map, and what the piece offers to both
   abbrev s′ : Reception
   s′ = withMap s map
@@ -192,11 +190,11 @@ module _ (s t : Reception) (map map′ : List ℕ) (below : SameBelow (s .length
 
 -- ---- taking and joining leave them
 module _ (s : Reception) (p : ℕ) (spare : s .length ≤ p) (h : p < length (s .map) * 8) where
-  take-leaves : (x : Piece) (a : Answer ℕ) → taking s x ≡ a → held (after s (ofPiece x) a .map) p ≡ held (s .map) p
+  take-leaves : (x : PieceData) (a : Answer ℕ) → taking s x ≡ a → held (after s (ofPiece x) a .map) p ≡ held (s .map) p
   take-leaves x (refused n) e = refl
   take-leaves x (accepted n) e = let k = taken-ends s x n e in held-elsewhere s (ofPiece x) p h (piece-below x (s .length) p k spare)
 
-  pub taking-leaves : (x : Piece) → held (taken s x .map) p ≡ held (s .map) p
+  pub taking-leaves : (x : PieceData) → held (taken s x .map) p ≡ held (s .map) p
   taking-leaves x = take-leaves x (taking s x) refl
 
   join-leaves : (t : Reception) (a : Answer ℕ) → joining s t ≡ a → held (after s (ofReception t) a .map) p ≡ held (s .map) p
@@ -206,27 +204,8 @@ module _ (s : Reception) (p : ℕ) (spare : s .length ≤ p) (h : p < length (s 
   pub joining-leaves : (t : Reception) → held (joined s t .map) p ≡ held (s .map) p
   joining-leaves t = join-leaves t (joining s t) refl
 
--- ---- listing, and what a host asks
+-- ---- what a host asks
 module _ (l : ℕ) (map map′ : List ℕ) (below : SameBelow l map map′) where
-  before-same : (p : ℕ) → p < l → heldBefore map p ≡ heldBefore map′ p
-  before-same zero g = refl
-  before-same (suc p) g = below .same p (omega arith)
-
-  start-same : (place : ℕ) → holeStart l map place ≡ holeStart l map′ place
-  start-same place =
-      first-same (startsHole map) (startsHole map′) place (l - place)
-      (λ p low g. ap₂ (λ (a b : Bool). not a && b) (below .same p (omega arith)) (before-same p (omega arith)))
-
-  end-same : (start : ℕ) → holeEnd l map start ≡ holeEnd l map′ start
-  end-same start = first-same (held map) (held map′) start (l - start) (λ p low g. below .same p (omega arith))
-
-  hole-same : (place : ℕ) → holeFrom l map place ≡ holeFrom l map′ place
-  hole-same place = rw (start-same place, end-same (holeStart l map′ place))
-
-  pub listing-same : (place : ℕ) → listing l map place ≡ listing l map′ place
-  unfolding listing
-  listing-same place = let e = below .long in rw (sym e, hole-same place, start-same place)
-
   pub held-same : (p : ℕ) → heldOf l map p ≡ heldOf l map′ p
   held-same p = by (ltb p l) refl
     where

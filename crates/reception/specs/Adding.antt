@@ -1,63 +1,56 @@
 -- What a piece or a second reception adds to a reception (01, "Reception"): both offer bytes at positions. They must agree
--- at every position already held, and each position that is new is held afterwards, with its byte.
+-- at every position already held, and each position that is new is held afterwards, with its byte. What that means under a
+-- map and a buffer stands in `runs`, specs/Offers.
 -- Assumes nothing.
 use mathlib.Core.Path.{_≡_}
-use mathlib.Core.Bool.{Bool, true, cond, not, _&&_, _||_}
+use mathlib.Core.Bool.{Bool}
 use mathlib.Core.List.{List}
-use Prim.Native.Nat.{ℕ, _-_}
-use lib.Dec.{eqb}
-use lib.ListN.{length}
+use Prim.Native.Nat.{ℕ}
 use Rattle.reason.specs.Answer.{Answer, accepted, refused, leaving}
-use Rattle.octets.specs.Numbers.{byteAt}
-use Rattle.octets.specs.Values.{valuesFrom}
-use Rattle.positions.specs.Spans.{within, every, count}
-use Rattle.positions.specs.Map.{held, mapOf}
-use Rattle.reception.specs.Reception.{Reception, Piece}
+use Rattle.runs.specs.Offers as offers
+use Rattle.reception.specs.Reception.{Reception, PieceData}
 use Rattle.reception.specs.declared.Added.{Added}
 use Rattle.reception.specs.declared.Added.the-variants.{Accepted, Refused}
 
--- an offer: of the `size` positions from `start` on, those that `has` tells, each with its byte
-pub record Offer : Type 0 where
-  pub start : ℕ
-  pub size : ℕ
-  pub has : ℕ → Bool
-  pub byte : ℕ → ℕ
+-- an offer: of some positions one after the other, those that it has, each with its byte
+abbrev pub Offer : Type 0
+Offer = offers.Offer
 
 -- a piece offers all its positions, and there its bytes
-abbrev pub ofPiece : Piece → Offer
-ofPiece x = record { start = x .offset; size = length (x .bytes); has = λ p. true; byte = λ p. byteAt (x .bytes) (p - x .offset) }
+abbrev pub ofPiece : PieceData → Offer
+ofPiece x = offers.pieceAt (x .offset) (x .bytes)
 
 -- a second reception offers the positions that it holds; its spare bits are not among them
 abbrev pub ofReception : Reception → Offer
-ofReception t = record { start = 0; size = t .length; has = held (t .map); byte = byteAt (t .buffer) }
+ofReception t = offers.heldIn (t .length) (t .map) (t .buffer)
 
 -- the position is offered
 abbrev pub offered : Offer → ℕ → Bool
-offered o p = within (o .start) (o .size) p && o .has p
+offered o p = offers.offered o p
 
 -- at a position that is held and offered, the two bytes are the same
 abbrev pub agreesAt : Reception → Offer → ℕ → Bool
-agreesAt s o p = not (held (s .map) p && o .has p) || eqb (byteAt (s .buffer) p) (o .byte p)
+agreesAt s o p = offers.agreesAt (s .map) (s .buffer) o p
 
 -- .. at each position: reason 11 is given where this fails
 abbrev pub agrees : Reception → Offer → Bool
-agrees s o = every (agreesAt s o) (o .start) (o .size)
+agrees s o = offers.agrees (s .map) (s .buffer) o
 
 -- of the positions of an offer, one that it has and that is not held yet
 abbrev pub isNew : Reception → Offer → ℕ → Bool
-isNew s o p = o .has p && not (held (s .map) p)
+isNew s o p = offers.isNew (s .map) o p
 
 -- the count of newly held positions
 abbrev pub newIn : Reception → Offer → ℕ
-newIn s o = count (isNew s o) (o .start) (o .size)
+newIn s o = offers.newIn (s .map) o
 
 -- the map afterwards: held are the positions held before, and those offered
 abbrev pub mapWith : Reception → Offer → List ℕ
-mapWith s o = mapOf (λ p. held (s .map) p || offered o p) (length (s .map))
+mapWith s o = offers.mapWith (s .map) o
 
 -- the buffer afterwards: at each new position the offered byte, elsewhere the byte that was there
 abbrev pub bufferWith : Reception → Offer → List ℕ
-bufferWith s o = valuesFrom (λ p. cond (within (o .start) (o .size) p && isNew s o p) (o .byte p) (byteAt (s .buffer) p)) 0 (length (s .buffer))
+bufferWith s o = offers.bufferWith (s .map) (s .buffer) o
 
 -- the reception after an answer: a refusal changes no lent byte
 abbrev pub after : Reception → Offer → Answer ℕ → Reception

@@ -3,12 +3,7 @@ pub mod Adding
 pub mod Opening
 pub mod Taking
 pub mod Joining
-pub mod Holes
 pub mod Held
-pub mod Listing
-pub mod EveryHole
-pub mod Sequences
-pub mod Stations
+pub mod Fitting
 pub mod Contents
 pub mod Spare
-pub mod Inner

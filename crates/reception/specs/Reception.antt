@@ -1,4 +1,4 @@
--- A reception of a file, and a piece of one (01, "Reception").
+-- A reception of a file, and the data of a piece of one (01, "Reception").
 -- Assumes nothing.
 use mathlib.Core.Bool.{Bool, not, _&&_, _||_}
 use mathlib.Core.List.{List}
@@ -18,8 +18,8 @@ pub record Reception : Type 0 where
   pub map : List ℕ
   pub buffer : List ℕ
 
--- a piece: the number of its file, the position of its first byte, and its bytes
-pub record Piece : Type 0 where
+-- the data of a piece: the number of its file, the position of its first byte, and its bytes
+pub record PieceData : Type 0 where
   pub number : ℕ
   pub offset : ℕ
   pub bytes : List ℕ

@@ -1,27 +1,23 @@
 // A reception of a file (01, "Reception"): what a station holds of it, in a map and a buffer that it was
 // lent.
 //
-// A station opens a reception, takes pieces in, joins the reception of another station, and lists the
-// holes that are left. Each operation answers its values, or one numbered reason in the order that its
-// comment gives; a refusal changes no lent byte, and what lies beyond the file in the lent map and
+// A station opens a reception, takes pieces in and joins the reception of another station; the holes that
+// are left are listed by `holes`. Each operation answers its values, or one numbered reason in the order
+// that its comment gives; a refusal changes no lent byte, and what lies beyond the file in the lent map and
 // buffer never changes. The contracts cite `specs/Opening.antt`, `specs/Taking.antt`,
-// `specs/Joining.antt`, `specs/Listing.antt` and `specs/Held.antt`; what a sequence of pieces and joins leaves is in
-// `proofs/Demand3.antt`, what a listed hole is in `proofs/HoleLaws.antt`.
-mod bits;
-mod eights;
-mod joins;
-mod pieces;
+// `specs/Joining.antt` and `specs/Held.antt`; what a piece and a join leave of a file is in
+// `proofs/Holding.antt` and `proofs/HoldingLaws.antt`.
 mod space;
 
 use reason::Outcome;
 pub use space::map_size;
 pub use space::short;
+pub use space::short_map;
 pub use space::wrong_length;
 ghost use mathlib.Core.Path.{_≡_};
 ghost use Rattle.reception.specs.Opening.{Opens};
 ghost use Rattle.reception.specs.Taking.{Takes};
 ghost use Rattle.reception.specs.Joining.{Joins};
-ghost use Rattle.reception.specs.Listing.{listing, listedAnswer};
 ghost use Rattle.reception.specs.Held.{heldOf, heldCount};
 
 // The longest file.
@@ -31,18 +27,6 @@ pub const LONGEST: u32 = 32768;
 // reason.
 pub enum Added {
     Accepted(u32),
-    Refused(u8),
-}
-
-// A hole: its first position, and how many positions it has.
-pub struct Hole {
-    pub start: u32,
-    pub length: u32,
-}
-
-// What listing answers: a hole, or the number of the reason.
-pub enum Listed {
-    Accepted(Hole),
     Refused(u8),
 }
 
@@ -93,10 +77,10 @@ pub fn take(
     if l - piece.len() < at {
         return Added::Refused(10);
     }
-    if !pieces::agree(map, buffer, at, piece) {
+    if !runs::piece_agrees(map, buffer, at, piece) {
         return Added::Refused(11);
     }
-    Added::Accepted(pieces::write(map, buffer, at, piece))
+    Added::Accepted(runs::put_piece(map, buffer, at, piece))
 }
 
 // Joins a second reception into a first, and answers how many positions only the second held; refuses 7
@@ -124,37 +108,10 @@ pub fn join(
         return Added::Refused(9);
     }
     let l = length as usize;
-    if !joins::agree(map, buffer, second_map, second_buffer, l) {
+    if !runs::both_agree(map, buffer, second_map, second_buffer, l) {
         return Added::Refused(11);
     }
-    Added::Accepted(joins::add(map, buffer, second_map, second_buffer, l))
-}
-
-// The first hole that starts at the place or later; refuses 7, 12 (the map's), 15. Asked from 0 and then
-// each time from the end of the last hole, until 15, it lists every hole once.
-pub fn list(length: u32, map: &[u8], place: u32) -> Listed
-    ensures { λ r. ⌜ listedAnswer r ≡ listing length (now (map .entry)) place ⌝ }
-{
-    if space::wrong_length(length) {
-        return Listed::Refused(7);
-    }
-    if space::short_map(length, map) {
-        return Listed::Refused(12);
-    }
-    let l = length as usize;
-    let from = place as usize;
-    if l <= from {
-        return Listed::Refused(15);
-    }
-    let start = bits::hole_start(map, from, l);
-    if l <= start {
-        return Listed::Refused(15);
-    }
-    let end = bits::first(map, start, l, true);
-    Listed::Accepted(Hole {
-        start: start as u32,
-        length: (end - start) as u32,
-    })
+    Added::Accepted(runs::add_held(map, buffer, second_map, second_buffer, l))
 }
 
 // Whether a position of a file of a length is held. A position that is not below the length, or beyond
@@ -165,21 +122,12 @@ pub fn is_held(length: u32, map: &[u8], position: u32) -> bool
     if length <= position {
         return false;
     }
-    let p = position as usize;
-    if map.len() <= p / 8 {
-        return false;
-    }
-    bits::test(map, p)
+    positions::is_held(map, position as usize)
 }
 
 // How many positions of a file of a length are held. Positions beyond the lent map are not.
 pub fn count_held(length: u32, map: &[u8]) -> u32
     ensures { λ r. ⌜ r ≡ heldCount length (now (map .entry)) ⌝ }
 {
-    let l = length as usize;
-    if map.len() <= l / 8 {
-        return bits::count_bytes(map, map.len());
-    }
-    let whole = bits::count_bytes(map, l / 8);
-    whole + bits::count_rest(map, l / 8 * 8, l)
+    positions::count_held(map, length)
 }

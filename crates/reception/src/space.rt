@@ -22,7 +22,7 @@ pub fn map_size(l: u32) -> usize
 }
 
 // Reason 12: whether a map is too short for a file of a length.
-pub(crate) fn short_map(l: u32, map: &[u8]) -> bool
+pub fn short_map(l: u32, map: &[u8]) -> bool
     ensures { λ r. ⌜ r ≡ shortMap l (now (map .entry)) ⌝ }
 {
     map.len() < map_size(l)

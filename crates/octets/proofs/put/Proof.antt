@@ -8,12 +8,12 @@ use native.Mathlib.Omega.{arith}
 use lib.ListN.{length}
 use borrow.Author.Needs.{needs}
 use borrow.Author.Tests.{le-leb, lt-leb}
-use Rattle.octets.specs.Runs.{fits, putIn, Put}
+use Rattle.octets.specs.Runs.{hasRoom, putIn, Put}
 use Rattle.octets.proofs.put.Statement.{statement}
 use Rattle.octets.proofs.put.Tie as tie
 
 module _ (out : List ℕ) (at : ℕ) (run : List ℕ) where
-  by : (r : Bool) (left : List ℕ) → fits out at run ≡ r → left ≡ cond r (putIn out at run) out → Put out at run r left
+  by : (r : Bool) (left : List ℕ) → hasRoom out at run ≡ r → left ≡ cond r (putIn out at run) out → Put out at run r left
   by r left f e = record { answer = sym f; bytes = e ∙ ap (λ (b : Bool). cond b (putIn out at run) out) (sym f) }
 
   kept : (left : List ℕ) → length out < at + length run → left ≡ out → Put out at run false left

@@ -1,7 +1,7 @@
 -- `reception::join` meets its contract: the tests in their order, then what only the second holds is copied.
 -- Assumes nothing.
-use mathlib.Core.Path.{_≡_, refl, sym, ap, ap₂, _∙_}
-use mathlib.Core.Bool.{true, false, not, _&&_, _||_}
+use mathlib.Core.Path.{_≡_, refl, sym, ap, ap₂, _∙_, subst}
+use mathlib.Core.Bool.{Bool, true, false, _&&_, _||_}
 use mathlib.Core.List.{List}
 use Prim.Native.Nat.{ℕ, _≤_}
 use native.Mathlib.Omega.{arith}
@@ -10,33 +10,33 @@ use lib.ListN.{length}
 use borrow.Author.Tests.{not-true, not-false, eqb-true}
 use borrow.Author.Needs.{needs}
 use Rattle.reason.specs.Answer.{accepted, refused}
-use Rattle.reason.proofs.Bools.{and-right, or-none}
+use Rattle.reason.proofs.Bools.{and-right, and-both, or-none}
 use Rattle.positions.specs.Spans.{every}
-use Rattle.positions.specs.Map.{held, mapSize}
+use Rattle.positions.specs.Map.{mapSize}
+use Rattle.runs.specs.Offers.{heldIn, bufferWith, inside, Stores}
+use Rattle.runs.proofs.OfferLaws.{is-inside, when-inside}
 use Rattle.reception.specs.Reception.{longest, Reception, wrongLength, shortSpace}
 use Rattle.reception.specs.Adding.{ofReception, agreesAt, agrees, newIn, Adds}
-use Rattle.reception.specs.Inner.{MapRun, BufferRun}
 use Rattle.reception.specs.Joining.{joining, joinedNew}
 use Rattle.reception.specs.declared.Added.the-variants.{Accepted, Refused}
-use Rattle.reception.proofs.MarkLaws.{run-map}
-use Rattle.reception.proofs.OfferLaws.{right-length, enough-space, adds-refused, adds-counted, run-buffer}
+use Rattle.reception.proofs.OfferLaws.{right-length, enough-space, adds-refused, adds-counted}
 use Rattle.reception.proofs.GivenReasons.{joins-7, joins-12, joins-9, joins-11, joins}
 use Rattle.reception.proofs.join.Statement.{statement}
 use Rattle.reception.proofs.join.Tie as tie
 
--- adding what the second holds below its length, where the lengths are the same
-module _ (s t : Reception) (l r : ℕ) (map buffer : List ℕ) (e : l ≡ t .length) (run : MapRun (s .map) (held (t .map)) 0 l map r) where
-  more : MapRun (s .map) (held (t .map)) 0 (t .length) map r
-  more = rw e at run
+-- what was stored of the positions below the first's length are those below the second's
+module _ (s t : Reception) (l : ℕ) (fits : Bool) (is : fits ≡ true) (e : l ≡ t .length) (r : ℕ) (map buffer : List ℕ)
+    (stored : Stores fits (s .map) (s .buffer) (heldIn l (t .map) (t .buffer)) (bufferWith (s .map) (s .buffer) (heldIn l (t .map) (t .buffer))) r map buffer) where
+  more : Stores true (s .map) (s .buffer) (ofReception t) (bufferWith (s .map) (s .buffer) (ofReception t)) r map buffer
+  more =
+      subst (λ (k : ℕ). Stores true (s .map) (s .buffer) (heldIn k (t .map) (t .buffer)) (bufferWith (s .map) (s .buffer) (heldIn k (t .map) (t .buffer))) r map buffer) e
+      (when-inside fits (s .map) (s .buffer) (heldIn l (t .map) (t .buffer)) (bufferWith (s .map) (s .buffer) (heldIn l (t .map) (t .buffer))) is r map buffer stored)
 
   counted : r ≡ newIn s (ofReception t)
-  counted = more .new
+  counted = more .counts
 
-  adds-joined : (n : ℕ) → joining s t ≡ accepted (joinedNew s t) → n ≡ joinedNew s t
-      → BufferRun (λ q. held (t .map) q && not (held (s .map) q)) (t .buffer) (s .buffer) 0 l buffer → Adds s (ofReception t) (joining s t) (Accepted n) map buffer
-  adds-joined n is new copied =
-      adds-counted s (ofReception t) (joining s t) map buffer (joinedNew s t) n is new (run-map (s .map) (held (t .map)) 0 (t .length) map r more)
-      (run-buffer (λ q. held (t .map) q && not (held (s .map) q)) (t .buffer) (s .buffer) 0 (t .length) buffer (rw e at copied))
+  adds-joined : (n : ℕ) → joining s t ≡ accepted (joinedNew s t) → n ≡ joinedNew s t → Adds s (ofReception t) (joining s t) (Accepted n) map buffer
+  adds-joined n answered new = adds-counted s (ofReception t) (joining s t) map buffer (joinedNew s t) n answered new (more .leaves-map) (more .leaves-buffer)
 
 wrong-length-requires : tie.Need-wrong-length-requires
 wrong-length-requires c κs = search needs
@@ -127,8 +127,24 @@ enough c =
 agreed : (c : tie.Else3) → agrees (s (T c)) (ofReception (t (T c))) ≡ every (agreesAt (s (T c)) (ofReception (t (T c)))) 0 (T c .args .length)
 agreed c = ap (every (agreesAt (s (T c)) (ofReception (t (T c)))) 0) (sym (lengths c))
 
-agree-requires : tie.Need-agree-requires
-agree-requires c κs = let w = enough (c .before .before) in (omega (arith, w), omega (arith, w), omega (arith, w), omega (arith, w), omega (arith, w))
+within : (c : tie.Else3)
+    → (inside (s (T c) .map) (s (T c) .buffer) 0 (T c .args .length) && inside (t (T c) .map) (t (T c) .buffer) 0 (T c .args .length)) ≡ true
+within c =
+    let w = enough c in
+    let l = T c .args .length in
+    and-both (inside (s (T c) .map) (s (T c) .buffer) 0 l) (inside (t (T c) .map) (t (T c) .buffer) 0 l)
+    (is-inside (s (T c) .map) (s (T c) .buffer) 0 l (omega (arith, w)) (omega (arith, w)) (omega (arith, w)))
+    (is-inside (t (T c) .map) (t (T c) .buffer) 0 l (omega (arith, w)) (omega (arith, w)) (omega (arith, w)))
+
+both-agree-requires : tie.Need-both-agree-requires
+both-agree-requires c κs = search needs
+
+told : (c : tie.After-both-agree)
+    → agrees (s (T (c .before .before .before))) (ofReception (t (T (c .before .before .before)))) ≡ c .both-agree .result
+told c =
+    let f = c .before .before .before in
+    agreed f
+    ∙ sym (c .both-agree .ensures ∙ ap (λ (i : Bool). i && every (agreesAt (s (T f)) (ofReception (t (T f)))) 0 (T f .args .length)) (within f))
 
 same-length-5 : tie.Need-same-length-5
 same-length-5 c = search needs
@@ -142,12 +158,10 @@ returns-4 c =
     let e = f .before in
     let d = D e in
     refuses (S d) 11
-    (joins-11 (s (S d)) (t (S d)) (right d) (room e) (same f) (agreed f ∙ sym (c .before .agree .ensures) ∙ not-true (c .before .agree .result) (c .if4 .taken)))
+    (joins-11 (s (S d)) (t (S d)) (right d) (room e) (same f) (told (c .before) ∙ not-true (c .before .both-agree .result) (c .if4 .taken)))
 
-add-requires : tie.Need-add-requires
-add-requires c κs =
-    let w = enough (c .before .before .before .before .before .before) in
-    (omega (arith, w), omega (arith, w), omega (arith, w), omega (arith, w), omega (arith, w))
+add-held-requires : tie.Need-add-held-requires
+add-held-requires c κs = search needs
 
 same-length-7 : tie.Need-same-length-7
 same-length-7 c = search needs
@@ -157,14 +171,16 @@ same-length-8 c = search needs
 
 returns-5 : tie.Need-returns-5
 returns-5 c =
-    let f = c .before .before .before .before .before .before .before .before .before .before .before in
+    let a = c .before .before .before .before .before .before .before .before in
+    let f = a .before .before .before in
     let e = f .before in
     let d = D e in
-    let done = c .before .before .before .before .add .ensures in
-    let new = counted (s (S d)) (t (S d)) (S d .args .length) _ _ (s (S d) .buffer) (lengths f) (done .0) in
-    adds-joined (s (S d)) (t (S d)) (S d .args .length) _ _ _ (lengths f) (done .0) _
-    (joins (s (S d)) (t (S d)) (right d) (room e) (same f) (agreed f ∙ sym (c .before .before .before .before .before .before .before .before .agree .ensures) ∙ not-false (c .before .before .before .before .before .before .before .before .agree .result) (c .before .before .before .before .before .before .before .if4 .left)))
-    (search (needs, new)) (done .1)
+    let done = c .before .before .before .before .add-held in
+    let new : done .result ≡ newIn (s (S d)) (ofReception (t (S d))) =
+    counted (s (S d)) (t (S d)) (S d .args .length) _ (within f) (lengths f) _ _ _ (done .ensures) in
+    adds-joined (s (S d)) (t (S d)) (S d .args .length) _ (within f) (lengths f) _ _ _ (done .ensures) _
+    (joins (s (S d)) (t (S d)) (right d) (room e) (same f) (told a ∙ not-false (a .both-agree .result) (c .before .before .before .before .before .before .before .if4 .left)))
+    (search (needs, new))
 
 pub join-spec : {M : Type 1} → statement M
 join-spec =
@@ -181,11 +197,11 @@ join-spec =
     same-length-3
     same-length-4
     returns-3
-    agree-requires
+    both-agree-requires
     same-length-5
     same-length-6
     returns-4
-    add-requires
+    add-held-requires
     same-length-7
     same-length-8
     returns-5)

@@ -1,20 +1,21 @@
 -- `reception::take` meets its contract: the tests in their order, then the positions are marked and the bytes written.
 -- Assumes nothing.
-use mathlib.Core.Path.{_≡_, refl, sym, _∙_}
-use mathlib.Core.Bool.{true, false}
+use mathlib.Core.Path.{_≡_, refl, sym, ap, _∙_}
+use mathlib.Core.Bool.{Bool, true, false, _&&_}
 use Prim.Native.Nat.{ℕ, _+_, _≤_}
 use native.Mathlib.Omega.{arith}
 use lib.ListN.{length}
 use borrow.Author.Tests.{not-false}
 use borrow.Author.Needs.{needs}
 use Rattle.positions.specs.Map.{mapSize}
-use Rattle.reception.specs.Reception.{longest, Reception, Piece, wrongLength, shortSpace}
+use Rattle.runs.specs.Offers.{inside}
+use Rattle.runs.proofs.OfferLaws.{is-inside, when-inside, piece-stored}
+use Rattle.reception.specs.Reception.{longest, Reception, PieceData, wrongLength, shortSpace}
 use Rattle.reason.specs.Answer.{refused}
-use Rattle.reception.specs.Adding.{ofPiece, agrees, Adds}
+use Rattle.reception.specs.Adding.{ofPiece, agrees, newIn, Adds}
 use Rattle.reception.specs.Taking.{taking}
 use Rattle.reception.specs.declared.Added.the-variants.{Refused}
-use Rattle.reception.proofs.MarkLaws.{run-map}
-use Rattle.reception.proofs.OfferLaws.{right-length, enough-space, adds-refused, adds-counted, piece-agrees, piece-stored}
+use Rattle.reception.proofs.OfferLaws.{right-length, enough-space, adds-refused, adds-counted}
 use Rattle.reception.proofs.GivenReasons.{takes-7, takes-12, takes-9, takes-10, takes-11, takes}
 use Rattle.reception.proofs.take.Statement.{statement}
 use Rattle.reception.proofs.take.Tie as tie
@@ -26,7 +27,7 @@ wrong-length-requires c κs = search needs
 abbrev s : tie.Start → Reception
 s c = record { number = c .args .number; length = c .args .length; map = c .args .map .now; buffer = c .args .buffer .now }
 
-abbrev x : tie.Start → Piece
+abbrev x : tie.Start → PieceData
 x c = record { number = c .args .piece-number; offset = c .args .offset; bytes = c .args .piece .now }
 
 refuses : (c : tie.Start) (n : ℕ) → taking (s c) (x c) ≡ refused n
@@ -112,14 +113,21 @@ T c = S (D (c .before .before .before))
 fits : (c : tie.Else5) → x (T c) .offset + length (x (T c) .bytes) ≤ s (T c) .length
 fits c = omega arith
 
-agree-requires : tie.Need-agree-requires
-agree-requires c κs =
-    let w = enough (c .before .before .before .before .before) in
-    let f = fits (c .before .before) in
-    (omega (arith, w, f), omega (arith, w, f), omega (arith, w, f))
+within : (c : tie.Else5) → inside (s (T c) .map) (s (T c) .buffer) (x (T c) .offset) (length (x (T c) .bytes)) ≡ true
+within c =
+    let w = enough (c .before .before .before) in
+    let f = fits c in
+    is-inside (s (T c) .map) (s (T c) .buffer) (x (T c) .offset) (length (x (T c) .bytes)) (omega (arith, w, f)) (omega (arith, w, f))
+    (omega (arith, w, f))
 
-agreed : (c : tie.After-agree) → agrees (s (T (c .before .before .before))) (ofPiece (x (T (c .before .before .before)))) ≡ c .agree .result
-agreed c = sym (piece-agrees (s (T (c .before .before .before))) (x (T (c .before .before .before)))) ∙ sym (c .agree .ensures)
+piece-agrees-requires : tie.Need-piece-agrees-requires
+piece-agrees-requires c κs = search needs
+
+agreed : (c : tie.After-piece-agrees)
+    → agrees (s (T (c .before .before .before))) (ofPiece (x (T (c .before .before .before)))) ≡ c .piece-agrees .result
+agreed c =
+    let k = T (c .before .before .before) in
+    sym (c .piece-agrees .ensures ∙ ap (λ (i : Bool). i && agrees (s k) (ofPiece (x k))) (within (c .before .before .before)))
 
 same-length-9 : tie.Need-same-length-9
 same-length-9 c = search needs
@@ -136,12 +144,8 @@ returns-6 c =
     let told = c .if6 .taken in
     refuses k 11 (takes-11 (s k) (x k) (right (D e)) (room e) (f .before .before .if3 .left) (fits f) (search (needs, agree, told)))
 
-write-requires : tie.Need-write-requires
-write-requires c κs =
-    let f = c .before .before .before .before .before .before in
-    let w = enough (f .before .before .before) in
-    let e = fits f in
-    (omega (arith, w, e), omega (arith, w, e), omega (arith, w, e))
+put-piece-requires : tie.Need-put-piece-requires
+put-piece-requires c κs = search needs
 
 same-length-11 : tie.Need-same-length-11
 same-length-11 c = search needs
@@ -160,12 +164,13 @@ returns-7 c =
     let agree = agreed a in
     let told = c .before .before .before .before .before .before .before .if6 .left in
     let agree-true : agrees (s k) (ofPiece (x k)) ≡ true = agree ∙ not-false _ told in
-    let done = c .before .before .before .before .write .ensures in
-    let new = done .0 .new in
+    let done = c .before .before .before .before .put-piece in
+    let stored = when-inside _ (s k .map) (s k .buffer) (ofPiece (x k)) _ (within f) _ _ _ (done .ensures) in
+    let new : done .result ≡ newIn (s k) (ofPiece (x k)) = stored .counts in
     adds-counted (s k) (ofPiece (x k)) (taking (s k) (x k)) _ _ _ _
     (takes (s k) (x k) (right (D e)) (room e) (f .before .before .if3 .left) z (search (needs, agree, told))) (search (needs, new))
-    (run-map (s k .map) (λ q. true) (x k .offset) (length (x k .bytes)) _ _ (done .0))
-    (done .1 ∙ piece-stored (s k) (x k) agree-true (omega (arith, w, z)))
+    (stored .leaves-map)
+    (stored .leaves-buffer ∙ piece-stored (s k .map) (s k .buffer) (x k .offset) (x k .bytes) agree-true (omega (arith, w, z)))
 
 pub take-spec : {M : Type 1} → statement M
 take-spec =
@@ -187,11 +192,11 @@ take-spec =
     same-length-7
     same-length-8
     returns-5
-    agree-requires
+    piece-agrees-requires
     same-length-9
     same-length-10
     returns-6
-    write-requires
+    put-piece-requires
     same-length-11
     same-length-12
     returns-7)

@@ -1,0 +1,9 @@
+pub mod HoleSteps
+pub mod GivenReasons
+pub mod HoleLaws
+pub mod ListedLaws
+pub mod NoneLeft
+pub mod SpareBits
+pub mod OnlyOne
+pub mod InOrder
+pub mod Cases

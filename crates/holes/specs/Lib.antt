@@ -1,0 +1,3 @@
+pub mod Holes
+pub mod Listing
+pub mod EveryHole
