@@ -72,6 +72,6 @@ head-says protocol frame head e =
       destination = and-left d s both;
       source = and-right d s both;
       controlled = eqb-true _ _ (not-false _ (none .1 .1 .0));
-      named = eqb-true _ _ (not-false _ (none .1 .1 .1 .0));
+      of-protocol = eqb-true _ _ (not-false _ (none .1 .1 .1 .0));
       is = all .1;
     }

@@ -4,7 +4,7 @@ use mathlib.Core.Path.{_≡_, refl}
 use mathlib.Core.Bool.{Bool}
 use mathlib.Core.List.{List}
 use Prim.Native.Nat.{ℕ}
-use Rattle.reason.specs.Answer.{Answer, accepted, refused, Wrote}
+use Rattle.reason.specs.Answer.{Answer, accepted, refused, Writes}
 use Rattle.reason.specs.declared.Outcome.{Outcome}
 use Rattle.reason.proofs.OnlyOne.{only-one, only-one-meant, only-one-written}
 use Rattle.ax25.specs.declared.Address.{Address}
@@ -37,7 +37,7 @@ only-one-address role s at r q = only-one-meant addressAnswer address-case addre
 
 -- `write_address`
 pub only-one-address-written : (role : Role) (out : List ℕ) (at : ℕ) (a : Address) (r q : Outcome) (left also : List ℕ)
-    → Wrote out (writeAddress role out at a) r left → Wrote out (writeAddress role out at a) q also → (r ≡ q) × (left ≡ also)
+    → Writes out (writeAddress role out at a) r left → Writes out (writeAddress role out at a) q also → (r ≡ q) × (left ≡ also)
 only-one-address-written role out at a r q left also = only-one-written out (writeAddress role out at a) r q left also
 
 -- `read_head`
@@ -56,5 +56,5 @@ only-one-head protocol frame r q = only-one-meant headAnswer head-case head-back
 
 -- `write_head`
 pub only-one-head-written : (out : List ℕ) (d s : Address) (protocol : ℕ) (r q : Outcome) (left also : List ℕ)
-    → Wrote out (writeHead out d s protocol) r left → Wrote out (writeHead out d s protocol) q also → (r ≡ q) × (left ≡ also)
+    → Writes out (writeHead out d s protocol) r left → Writes out (writeHead out d s protocol) q also → (r ≡ q) × (left ≡ also)
 only-one-head-written out d s protocol r q left also = only-one-written out (writeHead out d s protocol) r q left also

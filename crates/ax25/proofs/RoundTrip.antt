@@ -12,7 +12,7 @@ use borrow.Author.Tests.{le-leb}
 use Rattle.reason.specs.Answer.{accepted}
 use Rattle.reason.proofs.Bools.{and-both}
 use Rattle.octets.specs.Numbers.{byteAt}
-use Rattle.octets.specs.Runs.{fits, putIn}
+use Rattle.octets.specs.Runs.{hasRoom, putIn}
 use Rattle.octets.proofs.RunLaws.{put-within, put-length, put-part, put-same, part-is}
 use Rattle.ax25.specs.declared.Address.{Address}
 use Rattle.ax25.specs.declared.Role.{Role}
@@ -47,7 +47,7 @@ read-address-is-written role s at a e =
     let is : addressAt s at ≡ a = sym (k .1) in
     let bytes : take 7 (drop at s) ≡ addressBytes role a = formed-bytes role s at w ∙ ap (addressBytes role) is in
     let g : isWritable a ≡ true = ap isWritable (sym is) ∙ formed-is-writable role s at w in
-    let room : fits s at (addressBytes role a) ≡ true = le-leb (at + 7) (length s) (formed-in-list role s at w) in
+    let room : hasRoom s at (addressBytes role a) ≡ true = le-leb (at + 7) (length s) (formed-in-list role s at w) in
     (bytes, address-written role s at a g room ∙ ap accepted (put-same s at (addressBytes role a) bytes))
 
 -- two addresses that can be written and have the same bytes are one
@@ -126,7 +126,7 @@ read-head-is-written protocol frame head e =
     let s-read : readAddress Source frame 7 ≡ accepted s = address-accepted Source frame 7 (h .source) ∙ ap (λ (x : Head). accepted (x .source)) (sym (h .is)) in
     let d-same : putIn frame 0 (addressBytes Destination d) ≡ frame = put-same frame 0 (addressBytes Destination d) (read-address-is-written Destination frame 0 d d-read .0) in
     let s-same : putIn frame 7 (addressBytes Source s) ≡ frame = put-same frame 7 (addressBytes Source s) (read-address-is-written Source frame 7 s s-read .0) in
-    let two-same : putIn frame 14 (control ∷ protocol ∷ []) ≡ frame = put-same frame 14 (control ∷ protocol ∷ []) (two-bytes frame protocol l (h .controlled) (h .named)) in
+    let two-same : putIn frame 14 (control ∷ protocol ∷ []) ≡ frame = put-same frame 14 (control ∷ protocol ∷ []) (two-bytes frame protocol l (h .controlled) (h .of-protocol)) in
     let same : putIn frame 0 (headBytes d s protocol) ≡ frame =
     sym (three-runs frame d s protocol l)
     ∙ ap (λ (x : List ℕ). putIn (putIn x 7 (addressBytes Source s)) 14 (control ∷ protocol ∷ [])) d-same

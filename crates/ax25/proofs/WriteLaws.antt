@@ -10,7 +10,7 @@ use borrow.Author.Tests.{lt-ltb, le-ltb, ltb-false, leb-true, not-false}
 use Rattle.reason.specs.Answer.{accepted, refused}
 use Rattle.reason.proofs.Bools.{and-left, and-right}
 use Rattle.reason.proofs.OrderLaws.{skip, stop, none-left, accepted-only-if}
-use Rattle.octets.specs.Runs.{fits, putIn}
+use Rattle.octets.specs.Runs.{hasRoom, putIn}
 use Rattle.octets.proofs.RunLaws.{put-put}
 use Rattle.ax25.specs.declared.Address.{Address}
 use Rattle.ax25.specs.declared.Role.{Role}
@@ -23,11 +23,11 @@ module _ (role : Role) (out : List ℕ) (at : ℕ) (a : Address) where
   unfolding writeAddress
   address-2 g = stop _ _ _ (ap not g)
 
-  pub address-12 : isWritable a ≡ true → fits out at (addressBytes role a) ≡ false → writeAddress role out at a ≡ refused 12
+  pub address-12 : isWritable a ≡ true → hasRoom out at (addressBytes role a) ≡ false → writeAddress role out at a ≡ refused 12
   unfolding writeAddress
   address-12 g f = skip _ _ _ (ap not g) ∙ stop _ _ _ (ap not f)
 
-  pub address-written : isWritable a ≡ true → fits out at (addressBytes role a) ≡ true
+  pub address-written : isWritable a ≡ true → hasRoom out at (addressBytes role a) ≡ true
       → writeAddress role out at a ≡ accepted (putIn out at (addressBytes role a))
   unfolding writeAddress
   address-written g f = skip _ _ _ (ap not g) ∙ skip _ _ _ (ap not f) ∙ none-left _

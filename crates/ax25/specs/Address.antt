@@ -7,7 +7,7 @@ use lib.Dec.{leb, ltb, eqb}
 use Rattle.reason.specs.Answer.{Answer, accepted, refused}
 use Rattle.reason.specs.Order.{Check, check, firstOf}
 use Rattle.octets.specs.Numbers.{byteAt}
-use Rattle.octets.specs.Runs.{fits, putIn}
+use Rattle.octets.specs.Runs.{hasRoom, putIn}
 use Rattle.ax25.specs.declared.Address.{Address}
 use Rattle.ax25.specs.declared.Role.{Role}
 use Rattle.ax25.specs.declared.Role.the-variants.{Destination, Source}
@@ -91,7 +91,7 @@ readAddress role s at = firstOf (addressReadChecks role s at) (addressAt s at)
 
 -- the order in writing: 2, 12
 abbrev pub addressWriteChecks : Role → List ℕ → ℕ → Address → List Check
-addressWriteChecks role out at a = check (not (isWritable a)) 2 ∷ check (not (fits out at (addressBytes role a))) 12 ∷ []
+addressWriteChecks role out at a = check (not (isWritable a)) 2 ∷ check (not (hasRoom out at (addressBytes role a))) 12 ∷ []
 
 -- writing an address into a list from a place on: the list with its seven bytes there
 unfoldable pub writeAddress : Role → List ℕ → ℕ → Address → Answer (List ℕ)

@@ -6,11 +6,11 @@ use lib.ListN.{drop}
 use Rattle.ax25.specs.Head.{headLength}
 
 -- the protocols: of file pieces and fill requests, and of directory entries
-abbrev pub file : ℕ
-file = 0xBB
+abbrev pub fileProtocol : ℕ
+fileProtocol = 0xBB
 
-abbrev pub directory : ℕ
-directory = 0xBD
+abbrev pub directoryProtocol : ℕ
+directoryProtocol = 0xBD
 
 -- what follows the head
 abbrev pub informationOf : List ℕ → List ℕ

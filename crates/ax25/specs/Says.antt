@@ -18,5 +18,5 @@ pub record HeadSays (protocol : ℕ) (frame : List ℕ) (head : Head) : Type 0 w
   pub destination : wellFormed Destination frame 0 ≡ true
   pub source : wellFormed Source frame 7 ≡ true
   pub controlled : byteAt frame 14 ≡ control
-  pub named : byteAt frame 15 ≡ protocol
+  pub of-protocol : byteAt frame 15 ≡ protocol
   pub is : head ≡ headOf frame

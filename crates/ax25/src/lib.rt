@@ -8,7 +8,7 @@ mod spelling;
 
 use reason::Outcome;
 ghost use mathlib.Core.Path.{_≡_};
-ghost use Rattle.reason.specs.Answer.{Wrote};
+ghost use Rattle.reason.specs.Answer.{Writes};
 ghost use Rattle.ax25.specs.Address.{isWritable, addressAnswer, readAddress, writeAddress};
 ghost use Rattle.ax25.specs.Head.{headAnswer, readHead, writeHead};
 
@@ -20,9 +20,9 @@ pub const MOST_INFORMATION: usize = 255;
 pub const CONTROL: u8 = 0x03;
 
 // The protocols: of file pieces and fill requests, and of directory entries.
-pub const FILE: u8 = 0xBB;
+pub const FILE_PROTOCOL: u8 = 0xBB;
 
-pub const DIRECTORY: u8 = 0xBD;
+pub const DIRECTORY_PROTOCOL: u8 = 0xBD;
 
 // A station: six characters, padded at the end with spaces, and the number of its SSID.
 pub struct Address {
@@ -83,7 +83,7 @@ pub fn read_address(s: &[u8], at: usize, role: Role) -> AddressRead
 
 // Writes an address's seven bytes into out from a place on; refuses 2, 12.
 pub fn write_address(out: &mut [u8], at: usize, a: Address, role: Role) -> Outcome
-    ensures { λ r. ⌜ Wrote (now (out .entry)) (writeAddress role (now (out .entry)) at a) r (now (out .exit)) ⌝ }
+    ensures { λ r. ⌜ Writes (now (out .entry)) (writeAddress role (now (out .entry)) at a) r (now (out .exit)) ⌝ }
 {
     if !writable(a) {
         return Outcome::Refused(2);
@@ -126,7 +126,7 @@ pub fn read_head(frame: &[u8], protocol: u8) -> HeadRead
 
 // Writes a frame's head, its protocol the one named, into the first 16 bytes of out; refuses 2, 12.
 pub fn write_head(out: &mut [u8], destination: Address, source: Address, protocol: u8) -> Outcome
-    ensures { λ r. ⌜ Wrote (now (out .entry)) (writeHead (now (out .entry)) destination source protocol) r (now (out .exit)) ⌝ }
+    ensures { λ r. ⌜ Writes (now (out .entry)) (writeHead (now (out .entry)) destination source protocol) r (now (out .exit)) ⌝ }
 {
     if !(writable(destination) & writable(source)) {
         return Outcome::Refused(2);

@@ -54,7 +54,7 @@ header32 = record {
   number = 0xAE67;
   name = record { c0 = 0x42; c1 = 0x4C; c2 = 0x39; c3 = 0x39; c4 = 0x31; c5 = 0x31; c6 = 0x32; c7 = 0x34 };
   extension = record { c0 = 0x20; c1 = 0x20; c2 = 0x20 };
-  size = 0x06E0;
+  length = 0x06E0;
   created = 0x383B2D49;
   modified = 0x383C7EE1;
   upset = 0x00;
@@ -63,7 +63,7 @@ header32 = record {
   headersum = 0x0C84;
   body = 0x50;
   upload = Time 0x383C7EE0;
-  bytes = 80;
+  size = 80;
 }
 
 -- those of figure 3.2, with the flags as given
@@ -87,7 +87,7 @@ values-of-bytes = record {
     number = 0x0102AE67;
     name = header32 .name;
     extension = header32 .extension;
-    size = header32 .size;
+    length = header32 .length;
     created = header32 .created;
     modified = header32 .modified;
     upset = header32 .upset;
@@ -96,7 +96,7 @@ values-of-bytes = record {
     headersum = 0x0C87;
     body = header32 .body;
     upload = header32 .upload;
-    bytes = header32 .bytes;
+    size = header32 .size;
   };
 }
 
@@ -106,7 +106,7 @@ header33 = record {
   number = 0xAE7E;
   name = record { c0 = 0x41; c1 = 0x4C; c2 = 0x39; c3 = 0x39; c4 = 0x31; c5 = 0x31; c6 = 0x32; c7 = 0x39 };
   extension = record { c0 = 0x20; c1 = 0x20; c2 = 0x20 };
-  size = 0x03C1;
+  length = 0x03C1;
   created = 0x3841C564;
   modified = 0x3841FC5B;
   upset = 0x00;
@@ -115,7 +115,7 @@ header33 = record {
   headersum = 0x0D88;
   body = 0x50;
   upload = Time 0x3841FC5A;
-  bytes = 80;
+  size = 80;
 }
 
 pub record Cases : Type 0 where

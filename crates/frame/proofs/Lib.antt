@@ -1,3 +1,4 @@
+pub mod PartLaws
 pub mod PieceLaws
 pub mod EntryLaws
 pub mod Says

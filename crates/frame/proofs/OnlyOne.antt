@@ -11,7 +11,7 @@ use Rattle.frame.specs.declared.PieceRead.the-variants as piece
 use Rattle.frame.specs.declared.Entry.{Entry}
 use Rattle.frame.specs.declared.EntryRead.{EntryRead}
 use Rattle.frame.specs.declared.EntryRead.the-variants as entry
-use Rattle.frame.specs.Piece.{readPiece, bytesRead, pieceBytes, pieceAnswer}
+use Rattle.frame.specs.Piece.{readPiece, pieceBytesRead, pieceBytes, pieceAnswer}
 use Rattle.frame.specs.Entry.{readEntry, headerBytesRead, headerBytes, entryAnswer}
 
 -- `read_piece`
@@ -31,8 +31,8 @@ only-one-piece frame r q = only-one-meant pieceAnswer piece-case piece-back r q
 pub only-one-piece-bytes : (frame r q : List ℕ) → r ≡ pieceBytes frame → q ≡ pieceBytes frame → r ≡ q
 only-one-piece-bytes frame r q = only-one r q
 
-pub only-one-piece-of : (frame : List ℕ) (read : PieceRead) (r q : List ℕ) → r ≡ bytesRead (pieceAnswer read) frame
-    → q ≡ bytesRead (pieceAnswer read) frame → r ≡ q
+pub only-one-piece-of : (frame : List ℕ) (read : PieceRead) (r q : List ℕ) → r ≡ pieceBytesRead (pieceAnswer read) frame
+    → q ≡ pieceBytesRead (pieceAnswer read) frame → r ≡ q
 only-one-piece-of frame read r q = only-one r q
 
 -- `read_entry`

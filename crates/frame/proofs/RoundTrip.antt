@@ -25,14 +25,14 @@ use Rattle.ax25.proofs.SpellingLaws.{formed-is-writable}
 use Rattle.ax25.proofs.HeadLaws.{head-says}
 use Rattle.ax25.proofs.RoundTrip.{head-before-information, read-head-is-written}
 use Rattle.frame.specs.declared.Piece.{Piece}
-use Rattle.ax25.specs.Information.{file, informationOf}
-use Rattle.frame.specs.Piece.{pieceFlags, pieceChecks, pieceFields, pieceOf, readPiece, pieceData, bytesRead, pieceBytes}
-use Rattle.frame.specs.Made.{pieceBefore, pieceInformation, pieceFrame, Makeable}
+use Rattle.ax25.specs.Information.{fileProtocol, informationOf}
+use Rattle.frame.specs.Piece.{pieceFlags, pieceChecks, pieceFields, pieceOf, readPiece, dataPart, pieceBytesRead, pieceBytes}
+use Rattle.frame.specs.Making.{pieceBefore, pieceInformation, pieceFrame, MakeablePiece}
 use Rattle.frame.proofs.PieceLaws.{reads-piece}
 use Rattle.frame.specs.Says.{PieceSays}
 use Rattle.frame.proofs.Says.{piece-says}
 
-module _ (p : Piece) (bytes : List ℕ) (m : Makeable p bytes) where
+module _ (p : Piece) (bytes : List ℕ) (m : MakeablePiece p bytes) where
   abbrev Info : List ℕ
   Info = pieceInformation p bytes
 
@@ -54,8 +54,8 @@ module _ (p : Piece) (bytes : List ℕ) (m : Makeable p bytes) where
   abbrev Frame : List ℕ
   Frame = pieceFrame p bytes
 
-  head-is-read : readHead file Frame ≡ accepted (p .head)
-  head-is-read = head-before-information (p .head .destination) (p .head .source) file Info (m .destination) (m .source) (omega (arith, info-length, m .most))
+  head-is-read : readHead fileProtocol Frame ≡ accepted (p .head)
+  head-is-read = head-before-information (p .head .destination) (p .head .source) fileProtocol Info (m .destination) (m .source) (omega (arith, info-length, m .most))
 
   behind : informationOf Frame ≡ Info
   unfolding headBytes
@@ -64,20 +64,19 @@ module _ (p : Piece) (bytes : List ℕ) (m : Makeable p bytes) where
   pub made-piece-is-read : readPiece Frame ≡ accepted p
   unfolding readPiece made-by
   made-piece-is-read =
-      accepted-then (headChecks file Frame) (pieceChecks (informationOf Frame)) (headOf Frame) (p .head) (pieceOf Frame) head-is-read
-      ∙ ap₂ (λ (s : List ℕ) (h : Head). firstOf (pieceChecks s) (pieceFields h s)) behind (sym (head-says file Frame (p .head) head-is-read .is))
+      accepted-then (headChecks fileProtocol Frame) (pieceChecks (informationOf Frame)) (headOf Frame) (p .head) (pieceOf Frame) head-is-read
+      ∙ ap₂ (λ (s : List ℕ) (h : Head). firstOf (pieceChecks s) (pieceFields h s)) behind (sym (head-says fileProtocol Frame (p .head) head-is-read .is))
       ∙ reads-piece Info (pieceFields (p .head) Info) (omega (arith, info-length)) (right-check (pieceBefore p ++ bytes)) refl (λ e. absurd (omega (arith, info-length, m .some)))
       ∙ ap accepted (info-says (p .head))
 
   -- and the bytes are handed out
-  data-is : pieceData Frame ≡ bytes
-  unfolding headBytes
+  data-is : dataPart (informationOf Frame) ≡ bytes
   data-is =
-      let size : length Frame - 27 ≡ length bytes = omega (arith, length-append (headBytes (p .head .destination) (p .head .source) file) Info, info-length) in
-      ap (λ (n : ℕ). take n (bytes ++ Check)) size ∙ take-append-seam bytes Check
+      let size : length Info - 2 - 9 ≡ length bytes = omega (arith, info-length) in
+      ap dataPart behind ∙ ap (λ (n : ℕ). take n (bytes ++ Check)) size ∙ take-append-seam bytes Check
 
   pub made-piece-is-handed-out : pieceBytes Frame ≡ bytes
-  made-piece-is-handed-out = ap (λ (r : Answer Piece). bytesRead r Frame) made-piece-is-read ∙ data-is
+  made-piece-is-handed-out = ap (λ (r : Answer Piece). pieceBytesRead r Frame) made-piece-is-read ∙ data-is
 
 -- The other way: the parts of an accepted piece's information.
 
@@ -124,7 +123,7 @@ module _ (frame : List ℕ) (p : Piece) (a : AllBytes frame) (e : readPiece fram
   Rest = drop 9 (informationOf frame)
 
   abbrev N : ℕ
-  N = length frame - 27
+  N = length (informationOf frame) - 2 - 9
 
   piece-of-information : AllBytes (informationOf frame)
   piece-of-information i = omega (arith, getD-drop 16 frame i 0, a (16 + i))
@@ -136,7 +135,7 @@ module _ (frame : List ℕ) (p : Piece) (a : AllBytes frame) (e : readPiece fram
 
   bytes-and-check : pieceBytes frame ++ getD Rest N 0 ∷ getD Rest (N + 1) 0 ∷ [] ≡ Rest
   bytes-and-check =
-      ap (λ (b : List ℕ). b ++ getD Rest N 0 ∷ getD Rest (N + 1) 0 ∷ []) (Said .bytes ∙ ap (take N) (sym (drop-drop 9 16 frame)))
+      ap (λ (b : List ℕ). b ++ getD Rest N 0 ∷ getD Rest (N + 1) 0 ∷ []) (Said .bytes)
       ∙ last-two Rest N (omega (arith, length-drop 9 (informationOf frame), length-drop 16 frame, Said .size, Said .some))
 
   all-parts : (pieceBefore p ++ pieceBytes frame) ++ getD Rest N 0 ∷ getD Rest (N + 1) 0 ∷ [] ≡ informationOf frame
@@ -156,10 +155,10 @@ module _ (frame : List ℕ) (p : Piece) (a : AllBytes frame) (e : readPiece fram
   -- an accepted frame of bytes is the frame of its fields and of the bytes that it hands out: so it has one meaning
   pub accepted-piece-is-made : pieceFrame p (pieceBytes frame) ≡ frame
   accepted-piece-is-made =
-      ap₂ (λ (h s : List ℕ). h ++ s) (sym (read-head-is-written file frame (p .head) (Said .head-read) .0)) information-is ∙ take-append-drop 16 frame
+      ap₂ (λ (h s : List ℕ). h ++ s) (sym (read-head-is-written fileProtocol frame (p .head) (Said .head-read) .0)) information-is ∙ take-append-drop 16 frame
 
   -- .. and they are a piece that can be made: the accepted frames are exactly those that a satellite makes
-  pub accepted-piece-can-be-made : Makeable p (pieceBytes frame)
+  pub accepted-piece-can-be-made : MakeablePiece p (pieceBytes frame)
   unfolding headOf
   accepted-piece-can-be-made =
       let head = Said .head in

@@ -22,12 +22,12 @@ use Rattle.ax25.proofs.HeadLaws.{head-says}
 use Rattle.header.specs.Header.{headerLength, headerOf, keepsRules}
 use Rattle.header.specs.Rules.{Rules}
 use Rattle.header.proofs.RulesKept.{kept}
-use Rattle.header.proofs.HeaderLaws.{reads-header, told-length}
+use Rattle.header.proofs.HeaderLaws.{reads-header, told-size}
 use Rattle.header.proofs.Says.{header-says}
 use Rattle.frame.specs.declared.Piece.{Piece}
 use Rattle.frame.specs.declared.Entry.{Entry}
-use Rattle.ax25.specs.Information.{file, directory, informationOf}
-use Rattle.frame.specs.Piece.{beforeData, pieceChecks, pieceFields, pieceOf, readPiece, pieceData, pieceBytes, bytesRead}
+use Rattle.ax25.specs.Information.{fileProtocol, directoryProtocol, informationOf}
+use Rattle.frame.specs.Piece.{beforeData, pieceChecks, pieceFields, pieceOf, readPiece, dataPart, pieceBytes, pieceBytesRead}
 use Rattle.frame.specs.Entry.{beforeHeader, flagsAllowed, headerWhole, headerPart, headerRight, entryChecks, entryFields, entryOrder, entryOf, readEntry, headerBytesRead, headerBytes}
 use Rattle.frame.specs.Says.{PieceSays, EntrySays, EntryRules}
 use Rattle.frame.proofs.EntryLaws.{reads-entry}
@@ -48,17 +48,17 @@ pub piece-says : (frame : List ℕ) (p : Piece) → readPiece frame ≡ accepted
 unfolding readPiece pieceChecks pieceFields
 piece-says frame p e =
     let s = informationOf frame in
-    let two = both-accept (headChecks file frame) (pieceChecks s) (headOf frame) (pieceOf frame) p e in
+    let two = both-accept (headChecks fileProtocol frame) (pieceChecks s) (headOf frame) (pieceOf frame) p e in
     let all = accepted-only-if (pieceChecks s) (pieceOf frame) p (two .1) in
     let none = all .0 in
     let is : p ≡ pieceOf frame = all .1 in
-    let head = head-says file frame (headOf frame) (two .0) in
+    let head = head-says fileProtocol frame (headOf frame) (two .0) in
     let long : beforeData + checkLength ≤ length s = ltb-false (length s) (beforeData + checkLength) (none .0) in
     let more : length s ≡ beforeData + checkLength → ⊥ = eqb-false (length s) (beforeData + checkLength) (none .1 .1 .1 .0) in
     let all-of-it : length s ≡ length frame - 16 = length-drop 16 frame in
-    let bytes : pieceBytes frame ≡ pieceData frame = ap (λ (r : Answer Piece). bytesRead r frame) e in
-    let part : length (pieceData frame) ≡ length frame - 27 = length-take-le (length frame - 27) (drop 25 frame) (omega (arith, length-drop 25 frame)) in
-    let size : length (pieceBytes frame) ≡ length frame - 27 = ap length bytes ∙ part in
+    let bytes : pieceBytes frame ≡ dataPart s = ap (λ (r : Answer Piece). pieceBytesRead r frame) e in
+    let part : length (dataPart s) ≡ length s - 2 - 9 = length-take-le (length s - 2 - 9) (drop 9 s) (omega (arith, length-drop 9 s)) in
+    let size : length (pieceBytes frame) ≡ length s - 2 - 9 = ap length bytes ∙ part in
     let least : 28 ≤ length frame = at-least (length s) (length frame) all-of-it long more in
     record {
       is = is;
@@ -80,7 +80,7 @@ pub entry-says : (frame : List ℕ) (e : Entry) → readEntry frame ≡ accepted
 unfolding readEntry entryChecks entryFields
 entry-says frame e r =
     let s = informationOf frame in
-    let two = both-accept (headChecks directory frame) (entryChecks s) (headOf frame) (entryOf frame) e r in
+    let two = both-accept (headChecks directoryProtocol frame) (entryChecks s) (headOf frame) (entryOf frame) e r in
     let all = accepted-only-if (entryChecks s) (entryOf frame) e (two .1) in
     let none = all .0 in
     let is : e ≡ entryOf frame = all .1 in
@@ -92,7 +92,7 @@ entry-says frame e r =
     let a = eqb (headerLength (headerPart s)) (length (headerPart s)) in
     let part : headerBytes frame ≡ headerPart s = ap (λ (x : Answer Entry). headerBytesRead x frame) r in
     rw is (record {
-      head = head-says directory frame (headOf frame) (two .0);
+      head = head-says directoryProtocol frame (headOf frame) (two .0);
       flags = byte-in frame 0;
       allowed = (eqb-true (f % 32) 0 (and-left (eqb (f % 32) 0) (eqb (f / 128) 0) flagged), eqb-true (f / 128) 0 (and-right (eqb (f % 32) 0) (eqb (f / 128) 0) flagged));
       whole = (eqb-true (f / 32 % 2) 1 (and-left (eqb (f / 32 % 2) 1) (eqb (numberAt 4 s 5) 0) whole), eqb-true (numberAt 4 s 5) 0 (and-right (eqb (f / 32 % 2) 1) (eqb (numberAt 4 s 5) 0) whole));
@@ -103,13 +103,13 @@ entry-says frame e r =
       checked = not-false _ (none .1 .0);
       bytes = part;
       header = rw part (header-says (headerPart s) (numberAt 4 s 1) (headerOf (headerPart s)) (reads-header (headerPart s) (numberAt 4 s 1) (and-left k a right)));
-      alone = told-length (headerPart s) ∙ eqb-true _ _ (and-right k a right) ∙ ap length (sym part);
+      alone = told-size (headerPart s) ∙ eqb-true _ _ (and-right k a right) ∙ ap length (sym part);
     })
 
 -- No frame is both: the protocol tells a piece and an entry apart. (A piece and a request share the protocol; there the flags do:
 -- a piece's are 02.)
 pub not-piece-and-entry : (frame : List ℕ) (p : Piece) (e : Entry) → readPiece frame ≡ accepted p → readEntry frame ≡ accepted e → ⊥
-not-piece-and-entry frame p e x y = omega (arith, piece-says frame p x .head .named, entry-says frame e y .head .named)
+not-piece-and-entry frame p e x y = omega (arith, piece-says frame p x .head .of-protocol, entry-says frame e y .head .of-protocol)
 
 -- one of the checks with a number holds
 abbrev anyWith : ℕ → List Check → Bool
@@ -142,7 +142,7 @@ entry-is-read frame k =
     let flags : byteAt i 0 ≡ byteAt frame 16 = byte-in frame 0 in
     let number : numberAt 4 i 1 ≡ numberAt 4 frame 17 = number-in 4 frame 1 in
     let offset : numberAt 4 i 5 ≡ numberAt 4 frame 21 = number-in 4 frame 5 in
-    accepted-then (headChecks directory frame) (entryChecks i) (headOf frame) (headOf frame) (entryOf frame) (k .headed)
+    accepted-then (headChecks directoryProtocol frame) (entryChecks i) (headOf frame) (headOf frame) (entryOf frame) (k .headed)
     ∙ reads-entry i (entryOf frame) (omega (arith, length-drop 16 frame, k .long)) (k .checked)
     (ap flagsAllowed flags ∙ and-both _ _ (eq-eqb (byteAt frame 16 % 32) 0 (k .allowed .0)) (eq-eqb (byteAt frame 16 / 128) 0 (k .allowed .1)))
     (ap₂ headerWhole flags offset ∙ and-both _ _ (eq-eqb (byteAt frame 16 / 32 % 2) 1 (k .whole .0)) (eq-eqb (numberAt 4 frame 21) 0 (k .whole .1)))
@@ -154,7 +154,7 @@ pub accepted-entry-keeps : (frame : List ℕ) (e : Entry) → readEntry frame �
 unfolding readEntry entryChecks
 accepted-entry-keeps frame e r =
     let s = informationOf frame in
-    let two = both-accept (headChecks directory frame) (entryChecks s) (headOf frame) (entryOf frame) e r in
+    let two = both-accept (headChecks directoryProtocol frame) (entryChecks s) (headOf frame) (entryOf frame) e r in
     let none = accepted-only-if (entryChecks s) (entryOf frame) e (two .1) .0 in
     let says = entry-says frame e r in
     let least : beforeHeader + checkLength ≤ length s = ltb-false (length s) (beforeHeader + checkLength) (none .0) in
@@ -165,5 +165,5 @@ accepted-entry-keeps frame e r =
       allowed = rw (sym (says .flags)) (says .allowed);
       whole = (rw (sym (says .flags)) (says .whole .0), sym (says .offset) ∙ says .whole .1);
       ruled = rw (sym (says .bytes), sym (says .number)) (says .header .ruled);
-      alone = rw (sym (says .bytes)) (sym (says .header .bytes) ∙ says .alone);
+      alone = rw (sym (says .bytes)) (sym (says .header .size) ∙ says .alone);
     }

@@ -15,7 +15,7 @@ use Rattle.header.specs.Header.{headerLength, headerOf, keepsRules}
 use Rattle.frame.specs.declared.Entry.{Entry}
 use Rattle.frame.specs.declared.EntryRead.{EntryRead}
 use Rattle.frame.specs.declared.EntryRead.the-variants.{Accepted, Refused}
-use Rattle.ax25.specs.Information.{directory, informationOf}
+use Rattle.ax25.specs.Information.{directoryProtocol, informationOf}
 
 -- how many bytes stand before the file header: flags, number, offset, time old and time new
 abbrev pub beforeHeader : ℕ
@@ -61,7 +61,7 @@ entryFields head s = record {
 
 -- all reasons of an entry in their order
 abbrev pub entryOrder : List ℕ → List Check
-entryOrder frame = headChecks directory frame ++ entryChecks (informationOf frame)
+entryOrder frame = headChecks directoryProtocol frame ++ entryChecks (informationOf frame)
 
 -- what an entry says: both addresses, all its fields, and the values of its header
 abbrev pub entryOf : List ℕ → Entry

@@ -1,5 +1,5 @@
 pub mod Piece
 pub mod Entry
-pub mod Made
+pub mod Making
 pub mod Figure
 pub mod Says

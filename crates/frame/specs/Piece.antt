@@ -10,11 +10,11 @@ use Rattle.reason.specs.Order.{Check, check, firstOf}
 use Rattle.octets.specs.Numbers.{byteAt, numberAt}
 use Rattle.remainder.specs.Check.{checkLength, checkRight}
 use Rattle.ax25.specs.declared.Head.{Head}
-use Rattle.ax25.specs.Head.{headLength, headChecks, headOf}
+use Rattle.ax25.specs.Head.{headChecks, headOf}
 use Rattle.frame.specs.declared.Piece.{Piece}
 use Rattle.frame.specs.declared.PieceRead.{PieceRead}
 use Rattle.frame.specs.declared.PieceRead.the-variants.{Accepted, Refused}
-use Rattle.ax25.specs.Information.{file, informationOf}
+use Rattle.ax25.specs.Information.{fileProtocol, informationOf}
 
 -- how many bytes stand before the data: flags, number, type and offset
 abbrev pub beforeData : ℕ
@@ -39,7 +39,7 @@ pieceFields head s = record { head = head; number = numberAt 4 s 1; kind = byteA
 
 -- all reasons of a piece in their order
 abbrev pub pieceOrder : List ℕ → List Check
-pieceOrder frame = headChecks file frame ++ pieceChecks (informationOf frame)
+pieceOrder frame = headChecks fileProtocol frame ++ pieceChecks (informationOf frame)
 
 -- what a piece says: both addresses and all its fields
 abbrev pub pieceOf : List ℕ → Piece
@@ -49,18 +49,18 @@ pieceOf frame = pieceFields (headOf frame) (informationOf frame)
 unfoldable pub readPiece : List ℕ → Answer Piece
 readPiece frame = firstOf (pieceOrder frame) (pieceOf frame)
 
--- the frame's bytes between the nine header bytes and the two check bytes
-abbrev pub pieceData : List ℕ → List ℕ
-pieceData frame = take (length frame - (headLength + beforeData + checkLength)) (drop (headLength + beforeData) frame)
+-- the bytes of the information between the nine header bytes and the check bytes
+abbrev pub dataPart : List ℕ → List ℕ
+dataPart s = take (length s - checkLength - beforeData) (drop beforeData s)
 
 -- the bytes of a piece that was read: none if it was refused
-abbrev pub bytesRead : Answer Piece → List ℕ → List ℕ
-bytesRead (accepted p) frame = pieceData frame
-bytesRead (refused n) frame = []
+abbrev pub pieceBytesRead : Answer Piece → List ℕ → List ℕ
+pieceBytesRead (accepted p) frame = dataPart (informationOf frame)
+pieceBytesRead (refused n) frame = []
 
 -- the piece itself
 abbrev pub pieceBytes : List ℕ → List ℕ
-pieceBytes frame = bytesRead (readPiece frame) frame
+pieceBytes frame = pieceBytesRead (readPiece frame) frame
 
 -- the paper's number and values for each case of `read_piece`'s answer
 abbrev pub pieceAnswer : PieceRead → Answer Piece

@@ -44,7 +44,7 @@ pub(crate) fn read(s: &[u8], head: Head) -> EntryRead
     let HeaderRead::Accepted(header) = header::read_header(&s[BEFORE_HEADER..end], number) else {
         return EntryRead::Refused(8);
     };
-    if header.bytes != end - BEFORE_HEADER {
+    if header.size != end - BEFORE_HEADER {
         return EntryRead::Refused(8);
     }
     EntryRead::Accepted(Entry {

@@ -9,8 +9,8 @@
 mod entries;
 mod pieces;
 
-use ax25::DIRECTORY;
-use ax25::FILE;
+use ax25::DIRECTORY_PROTOCOL;
+use ax25::FILE_PROTOCOL;
 use ax25::HEAD_LENGTH;
 use ax25::Head;
 use ax25::HeadRead;
@@ -18,7 +18,7 @@ use entries::BEFORE_HEADER;
 use header::Header;
 use pieces::BEFORE_DATA;
 ghost use mathlib.Core.Path.{_≡_};
-ghost use Rattle.frame.specs.Piece.{pieceAnswer, readPiece, pieceBytes, bytesRead};
+ghost use Rattle.frame.specs.Piece.{pieceAnswer, readPiece, pieceBytes, pieceBytesRead};
 ghost use Rattle.frame.specs.Entry.{entryAnswer, readEntry, headerBytes, headerBytesRead};
 
 // Where the bytes of a piece start in its frame: behind the head and the nine header bytes.
@@ -68,7 +68,7 @@ pub enum EntryRead {
 pub fn read_piece(frame: &[u8]) -> PieceRead
     ensures { λ r. ⌜ pieceAnswer r ≡ readPiece (now (frame .entry)) ⌝ }
 {
-    match ax25::read_head(frame, FILE) {
+    match ax25::read_head(frame, FILE_PROTOCOL) {
         HeadRead::Accepted(head) => pieces::read(&frame[HEAD_LENGTH..], head),
         HeadRead::Refused(n) => PieceRead::Refused(n),
     }
@@ -86,7 +86,7 @@ pub fn piece_bytes(frame: &[u8]) -> &[u8]
 // The same for a frame that `read_piece` has read: its answer is handed in, and the check is not worked
 // out again. By the answer of another frame it hands out what stands at those places here.
 pub fn piece_of(frame: &[u8], read: PieceRead) -> &[u8]
-    ensures { λ r. ⌜ now r ≡ bytesRead (pieceAnswer read) (now (frame .entry)) ⌝ }
+    ensures { λ r. ⌜ now r ≡ pieceBytesRead (pieceAnswer read) (now (frame .entry)) ⌝ }
 {
     match read {
         PieceRead::Accepted(_) => pieces::between(frame),
@@ -99,7 +99,7 @@ pub fn piece_of(frame: &[u8], read: PieceRead) -> &[u8]
 pub fn read_entry(frame: &[u8]) -> EntryRead
     ensures { λ r. ⌜ entryAnswer r ≡ readEntry (now (frame .entry)) ⌝ }
 {
-    match ax25::read_head(frame, DIRECTORY) {
+    match ax25::read_head(frame, DIRECTORY_PROTOCOL) {
         HeadRead::Accepted(head) => entries::read(&frame[HEAD_LENGTH..], head),
         HeadRead::Refused(n) => EntryRead::Refused(n),
     }

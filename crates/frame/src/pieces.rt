@@ -6,7 +6,8 @@ use super::PieceRead;
 use ax25::Head;
 ghost use mathlib.Core.Path.{_≡_};
 ghost use Rattle.reason.specs.Order.{firstOf};
-ghost use Rattle.frame.specs.Piece.{pieceChecks, pieceFields, pieceAnswer, pieceData};
+ghost use Rattle.ax25.specs.Information.{informationOf};
+ghost use Rattle.frame.specs.Piece.{pieceChecks, pieceFields, pieceAnswer, dataPart};
 
 // The flags of every piece.
 const FLAGS: u8 = 0x02;
@@ -49,7 +50,7 @@ pub(crate) fn read(s: &[u8], head: Head) -> PieceRead
 
 // The bytes of a frame between the nine header bytes and the two check bytes.
 pub(crate) fn between(frame: &[u8]) -> &[u8]
-    ensures { λ r. ⌜ now r ≡ pieceData (now (frame .entry)) ⌝ }
+    ensures { λ r. ⌜ now r ≡ dataPart (informationOf (now (frame .entry))) ⌝ }
 {
     if frame.len() < NO_DATA {
         return &frame[0..0];

@@ -7,7 +7,7 @@ use lib.ListN.{take, drop, set, replicate}
 use Rattle.reason.specs.Answer.{Answer, accepted, refused}
 use Rattle.reason.specs.Order.{firstOf}
 use Rattle.octets.specs.Runs.{putIn}
-use Rattle.header.specs.declared.Meaning.the-variants.{End, FileNumber, FileName, FileExtension, FileSize, CreationTime, ModificationTime, UpsetFlag, FileType, BodySum, HeaderSum, BodyOffset, UploadTime, Other}
+use Rattle.header.specs.declared.Meaning.the-variants.{End, FileNumber, FileName, FileExtension, FileLength, CreationTime, ModificationTime, UpsetFlag, FileType, BodySum, HeaderSum, BodyOffset, UploadTime, Other}
 use Rattle.header.specs.declared.Size.the-variants.{Exactly, Any}
 use Rattle.header.specs.declared.Step.{Step}
 use Rattle.header.specs.declared.Step.the-variants.{Found, Ended, Broken}
@@ -26,7 +26,7 @@ items31 =
     item (record { id = 0x01; meaning = FileNumber; start = 5; size = 4 })
     (item (record { id = 0x02; meaning = FileName; start = 12; size = 8 })
     (item (record { id = 0x03; meaning = FileExtension; start = 23; size = 3 })
-    (item (record { id = 0x04; meaning = FileSize; start = 29; size = 4 })
+    (item (record { id = 0x04; meaning = FileLength; start = 29; size = 4 })
     (item (record { id = 0x05; meaning = CreationTime; start = 36; size = 4 })
     (item (record { id = 0x06; meaning = ModificationTime; start = 43; size = 4 })
     (item (record { id = 0x12; meaning = UploadTime; start = 50; size = 4 })
@@ -91,11 +91,11 @@ short-twelve = set (set (take 49 figure31 ++ 0x03 ∷ [] ++ take 3 (drop 50 figu
 
 -- the values of figure 3.1, with the body offset, the sum, the upload time and the header's length as given
 abbrev values : ℕ → ℕ → Upload → ℕ → Header
-values body sum upload bytes = record {
+values body sum upload size = record {
   number = 0x21E0;
   name = record { c0 = 0x43; c1 = 0x4C; c2 = 0x39; c3 = 0x39; c4 = 0x31; c5 = 0x32; c6 = 0x30; c7 = 0x38 };
   extension = record { c0 = 0x20; c1 = 0x20; c2 = 0x20 };
-  size = 0x0B4E;
+  length = 0x0B4E;
   created = 0x384DB0D5;
   modified = 0x384DB0D6;
   upset = 0x00;
@@ -104,7 +104,7 @@ values body sum upload bytes = record {
   headersum = sum;
   body = body;
   upload = upload;
-  bytes = bytes;
+  size = size;
 }
 
 -- those of `of-bytes`
@@ -113,7 +113,7 @@ told = record {
   number = 0x04030201;
   name = record { c0 = 0x11; c1 = 0x12; c2 = 0x13; c3 = 0x14; c4 = 0x15; c5 = 0x16; c6 = 0x17; c7 = 0x18 };
   extension = record { c0 = 0x21; c1 = 0x22; c2 = 0x23 };
-  size = 0x06050B4E;
+  length = 0x06050B4E;
   created = 0x384DB0D5;
   modified = 0x384DB0D6;
   upset = 0x01;
@@ -122,7 +122,7 @@ told = record {
   headersum = 0x0BA9;
   body = 0x50;
   upload = Time 0x384DB0D6;
-  bytes = 80;
+  size = 80;
 }
 
 -- what figure 3.1 is answered without each of the mandatory items in turn

@@ -33,6 +33,6 @@ module _ (s : List ℕ) (number : ℕ) where
       ⊎-elim (λ w. (not-true (keepsRules s number) (w .0), sym (w .1))) (λ w. absurd (w .1)) (refused-only-if n (headerChecks s number) (headerOf s) e)
 
 -- the header's length, as its values tell it
-pub told-length : (s : List ℕ) → headerOf s .bytes ≡ headerLength s
+pub told-size : (s : List ℕ) → headerOf s .size ≡ headerLength s
 unfolding headerOf
-told-length s = refl
+told-size s = refl

@@ -2,7 +2,7 @@
 -- step and the items from the next place on.
 -- Assumes nothing.
 use mathlib.Core.Path.{_≡_, refl, sym, ap, _∙_}
-use mathlib.Core.Bool.{Bool, true, false, not, cond}
+use mathlib.Core.Bool.{Bool, true, false, not, cond, false≢true}
 use mathlib.Core.List.{List}
 use mathlib.Core.Logic.{_⊎_, inl, inr, ⊎-elim}
 use Prim.Native.Nat.{ℕ, zero, suc, _+_, _≤_, _<_}
@@ -17,7 +17,7 @@ use Rattle.header.specs.declared.Item.{Item}
 use Rattle.header.specs.declared.Cursor.{Cursor}
 use Rattle.header.specs.declared.Step.{Step}
 use Rattle.header.specs.declared.Step.the-variants.{Found, Ended, Broken}
-use Rattle.header.specs.Items.{mandatoryItems, knownItems, decisionOf, allowsSize, stepWith, stepAt, item, after, steps, itemsFrom, items, countOf, lastOf, startOf, sizeOf, endOf}
+use Rattle.header.specs.Items.{mandatoryItems, knownItems, decisionOf, allowsSize, stepWith, stepAt, Items, item, after, steps, itemsFrom, items, countOf, lastOf, startOf, sizeOf, comesToEnd, behindEnd}
 
 -- what a step says that finds an item: it stands at the cursor, and the next cursor is behind it, within the list
 pub record Next (s : List ℕ) (at : ℕ) (i : Item) (c : Cursor) : Type 0 where
@@ -153,18 +153,22 @@ module _ (s : List ℕ) (id : ℕ) where
   unfolding itemsFrom
   item-within = within-steps (length s) 2 0 0 (omega arith)
 
-end-after : (k : ℕ) (s : List ℕ) (at : ℕ) → ((b : ℕ) → endOf (steps k s b) ≤ length s) → (t : Step) → stepAt s at ≡ t → endOf (after t (steps k s)) ≤ length s
-end-after k s at ih (Found i c) told = ih (c .at)
-end-after k s at ih (Ended c) told = let x = ends s at c told in omega (arith, x .0, x .1)
-end-after k s at ih Broken told = omega arith
+module _ (s : List ℕ) where
+  abbrev Within : Items → Type 0
+  Within is = comesToEnd is ≡ true → behindEnd is ≤ length s
 
-end-steps : (k : ℕ) (s : List ℕ) (at : ℕ) → endOf (steps k s at) ≤ length s
-end-steps zero s at = omega arith
-end-steps (suc k) s at = end-after k s at (end-steps k s) (stepAt s at) refl
+  end-after : (k at : ℕ) → ((b : ℕ) → Within (steps k s b)) → (t : Step) → stepAt s at ≡ t → Within (after t (steps k s))
+  end-after k at ih (Found i c) told h = ih (c .at) h
+  end-after k at ih (Ended c) told h = let x = ends s at c told in omega (arith, x .0, x .1)
+  end-after k at ih Broken told h = absurd (false≢true h)
 
-pub end-within : (s : List ℕ) → endOf (items s) ≤ length s
-unfolding itemsFrom
-end-within s = end-steps (length s) s 2
+  end-steps : (k at : ℕ) → Within (steps k s at)
+  end-steps zero at h = absurd (false≢true h)
+  end-steps (suc k) at h = end-after k at (end-steps k) (stepAt s at) refl h
+
+  pub end-within : Within (items s)
+  unfolding itemsFrom
+  end-within h = end-steps (length s) 2 h
 
 -- an item whose length is fixed has that length: d is the length of the last one before the place, or one comes behind it
 module _ (s : List ℕ) (id n : ℕ) (fixed : decisionOf id .size ≡ Exactly n) where

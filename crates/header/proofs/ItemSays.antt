@@ -2,7 +2,7 @@
 -- Assumes nothing.
 use mathlib.Core.Path.{_≡_, refl, sym, ap, ap₂, _∙_, subst}
 use mathlib.Core.Bool.{Bool, true, false, cond}
-use mathlib.Core.List.{List, [], _∷_, List·Memᴰ}
+use mathlib.Core.List.{List, [], _∷_}
 use mathlib.Core.Logic.{⊎-elim}
 use Prim.Native.Nat.{ℕ, zero, suc, _+_, _≤_, _<_}
 use native.Mathlib.Omega.{arith}
@@ -10,6 +10,7 @@ use lib.Dec.{eqb}
 use lib.ListN.{length, getD, take, drop}
 use borrow.Author.Tests.{eqb-true, eq-eqb, ne-eqb}
 use Rattle.reason.specs.Answer.{accepted}
+use Rattle.octets.specs.Lists.{OneOf}
 use Rattle.octets.specs.Numbers.{numberAt}
 use Rattle.header.specs.declared.Meaning.{Meaning}
 use Rattle.header.specs.declared.Meaning.the-variants.{UploadTime, Other}
@@ -133,7 +134,7 @@ module _ (s : List ℕ) (number : ℕ) (h : Header) (e : readHeader s number ≡
   listed : (k id size : ℕ) → k < 11 → getD mandatory k (record { id = 0; size = 0 }) ≡ record { id = id; size = size } → countOf (items s) id ≤ 1
   listed k id size l is =
       let once = says .ruled .each-once (record { id = id; size = size })
-      (subst (λ (p : Pair). List·Memᴰ p mandatory) is (in-list mandatory (record { id = 0; size = 0 }) k (omega (arith, eleven)))) in
+      (subst (λ (p : Pair). OneOf p mandatory) is (in-list mandatory (record { id = 0; size = 0 }) k (omega (arith, eleven)))) in
       omega (arith, once)
 
   uploaded : Told 0x12 UploadTime
@@ -155,10 +156,10 @@ module _ (s : List ℕ) (number : ℕ) (h : Header) (e : readHeader s number ≡
   all-told : Holds Told knownItems
   unfolding knownItems mandatoryItems
   all-told =
-      let number = numbered 4 0x01 _ (says .number) (listed 0 0x01 4 (omega arith) refl) in
+      let number = numbered 4 0x01 _ (says .number-item) (listed 0 0x01 4 (omega arith) refl) in
       let name = spelled 0x02 _ (says .name) (listed 1 0x02 8 (omega arith) refl) in
       let extension = spelled 0x03 _ (says .extension) (listed 2 0x03 3 (omega arith) refl) in
-      let size = numbered 4 0x04 _ (says .size) (listed 3 0x04 4 (omega arith) refl) in
+      let whole = numbered 4 0x04 _ (says .length) (listed 3 0x04 4 (omega arith) refl) in
       let created = numbered 4 0x05 _ (says .created) (listed 4 0x05 4 (omega arith) refl) in
       let modified = numbered 4 0x06 _ (says .modified) (listed 5 0x06 4 (omega arith) refl) in
       let upset = numbered 1 0x07 _ (says .upset) (listed 6 0x07 1 (omega arith) refl) in
@@ -166,7 +167,7 @@ module _ (s : List ℕ) (number : ℕ) (h : Header) (e : readHeader s number ≡
       let bodysum = numbered 2 0x09 _ (says .bodysum) (listed 8 0x09 2 (omega arith) refl) in
       let headersum = numbered 2 0x0A _ (says .headersum) (listed 9 0x0A 2 (omega arith) refl) in
       let body = numbered 2 0x0B _ (says .body) (listed 10 0x0B 2 (omega arith) refl) in
-      (λ j m is. tt, (number, (name, (extension, (size, (created, (modified, (upset, (kind, (bodysum, (headersum, (body, (uploaded, tt)))))))))))))
+      (λ j m is. tt, (number, (name, (extension, (whole, (created, (modified, (upset, (kind, (bodysum, (headersum, (body, (uploaded, tt)))))))))))))
 
   -- An accepted header tells, for the meaning of each of its items, what the item's data say.
   pub item-says : (j : Item) → Among j (items s) → Tells h (j .meaning) (Bytes j)

@@ -8,7 +8,7 @@ use native.Mathlib.Omega.{arith}
 use lib.Dec.{eqb}
 use borrow.Author.Tests.{eqb-true, eqb-false, eq-eqb, ne-eqb}
 use Rattle.header.specs.declared.Meaning.{Meaning}
-use Rattle.header.specs.declared.Meaning.the-variants.{End, FileNumber, FileName, FileExtension, FileSize, CreationTime, ModificationTime, UpsetFlag, FileType, BodySum, HeaderSum, BodyOffset, UploadTime, Other}
+use Rattle.header.specs.declared.Meaning.the-variants.{End, FileNumber, FileName, FileExtension, FileLength, CreationTime, ModificationTime, UpsetFlag, FileType, BodySum, HeaderSum, BodyOffset, UploadTime, Other}
 use Rattle.header.specs.declared.Size.the-variants.{Exactly}
 use Rattle.header.specs.Items.{Known, known, mandatoryItems, knownItems, lookUp, decisionOf}
 use Rattle.header.specs.Notes.{placeOf, places, Placed}
@@ -19,7 +19,7 @@ place-below End = omega arith
 place-below FileNumber = omega arith
 place-below FileName = omega arith
 place-below FileExtension = omega arith
-place-below FileSize = omega arith
+place-below FileLength = omega arith
 place-below CreationTime = omega arith
 place-below ModificationTime = omega arith
 place-below UpsetFlag = omega arith
@@ -35,7 +35,7 @@ own-place End d = omega arith
 own-place FileNumber d = omega arith
 own-place FileName d = omega arith
 own-place FileExtension d = omega arith
-own-place FileSize d = omega arith
+own-place FileLength d = omega arith
 own-place CreationTime d = omega arith
 own-place ModificationTime d = omega arith
 own-place UpsetFlag d = omega arith

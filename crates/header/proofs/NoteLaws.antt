@@ -1,9 +1,9 @@
 -- Laws of the notes: what holds after each item of the walk, and that the notes of all items say what the definitions say.
 -- Assumes nothing.
-use mathlib.Core.Path.{_≡_, refl, sym, ap, ap₂, _∙_}
+use mathlib.Core.Path.{_≡_, refl, sym, ap, ap₂, subst, _∙_}
 use mathlib.Core.Bool.{Bool, true, false, cond, _&&_}
 use mathlib.Core.List.{List, [], _∷_}
-use Prim.Native.Nat.{ℕ, zero, suc, _+_, _%_, _≤_, _<_}
+use Prim.Native.Nat.{ℕ, zero, suc, _+_, _%_, _≤_}
 use native.Mathlib.Nat.{zero-add}
 use native.Mathlib.Omega.{arith}
 use lib.Dec.{eqb}
@@ -18,9 +18,10 @@ use Rattle.header.specs.declared.Item.{Item}
 use Rattle.header.specs.declared.Cursor.{Cursor}
 use Rattle.header.specs.declared.Step.{Step}
 use Rattle.header.specs.declared.Step.the-variants.{Found, Ended, Broken}
-use Rattle.header.specs.Items.{mandatoryItems, knownItems, decisionOf, stepAt, Items, item, itemsFrom, items, countOf, lastOf, startOf, sizeOf, endOf}
-use Rattle.header.specs.Header.{headerLength, mandatory, every, once, sumOf, headerSum, valuesBy, headerOf, allOnce}
-use Rattle.header.specs.Notes.{placeOf, places, none, noteOf, byId, withNote, Placed, Noted}
+use Rattle.header.specs.declared.notes.Walked.the-variants as walked
+use Rattle.header.specs.Items.{mandatoryItems, knownItems, decisionOf, stepAt, Items, item, itemsFrom, items, countOf, lastOf, startOf, sizeOf, comesToEnd, behindEnd}
+use Rattle.header.specs.Header.{headerLength, mandatory, everyPair, once, sumOf, headerSum, valuesBy, headerOf, allOnce}
+use Rattle.header.specs.Notes.{placeOf, places, none, noteOf, byId, withNote, Placed, Noted, Walks}
 use Rattle.header.proofs.MeaningLaws.{place-below, same-place}
 use Rattle.header.proofs.TableLaws.{each, every-same, each-placed, sum-listed}
 use Rattle.header.proofs.ItemLaws.{Next, items-by, found-by-told, ended-by-told, last-more}
@@ -49,6 +50,13 @@ pub note-at : (notes : List ℕ) → length notes ≡ places → (id v k : ℕ) 
 note-at notes long id v k h =
     set-at notes long (decisionOf id .meaning) v (placeOf (decisionOf k .meaning)) ∙ ap (λ (b : Bool). cond b v (byId notes k)) (same-place id k h)
 
+-- the walk's answers differ
+ended-broken : (n : ℕ) → walked.Ended n ≡ walked.Broken → ⊥
+ended-broken n h = let z : _≡_ {A = ℕ} 0 1 = cc in omega arith
+
+same-end : (n m : ℕ) → walked.Ended n ≡ walked.Ended m → n ≡ m
+same-end n m h = cc
+
 -- what the notes say when the cursor is at a place: with the items from there on, what all items say
 pub record SoFar (s : List ℕ) (at : ℕ) (counts sizes starts : List ℕ) : Type 0 where
   pub counted : (k : ℕ) → Placed k → byId counts k + countOf (itemsFrom s at) k ≡ countOf (items s) k
@@ -56,7 +64,8 @@ pub record SoFar (s : List ℕ) (at : ℕ) (counts sizes starts : List ℕ) : Ty
   pub started : (k : ℕ) → Placed k → lastOf (λ (i : Item). i .start) (byId starts k) k (itemsFrom s at) ≡ startOf (items s) k
   pub few : (k : ℕ) → getD counts k 0 ≤ at
   pub within : (k : ℕ) → Placed k → byId starts k + byId sizes k ≤ at
-  pub ending : endOf (itemsFrom s at) ≡ headerLength s
+  pub ending : comesToEnd (itemsFrom s at) ≡ comesToEnd (items s)
+  pub reaching : behindEnd (itemsFrom s at) ≡ headerLength s
   pub counts-long : length counts ≡ places
   pub sizes-long : length sizes ≡ places
   pub starts-long : length starts ≡ places
@@ -72,6 +81,7 @@ before-all s =
       few = λ k. omega (arith, none-at places k);
       within = λ k h. omega (arith, zero-at k);
       ending = refl;
+      reaching = refl;
       counts-long = refl;
       sizes-long = refl;
       starts-long = refl;
@@ -126,7 +136,8 @@ module _ (s : List ℕ) (at : ℕ) (counts sizes starts : List ℕ) (sofar : SoF
       started = λ k h. last-noted (λ (j : Item). j .start) starts (sofar .starts-long) k h _ (sofar .started k h);
       few = λ k. few-by k (eqb (placeOf M) k) (set-at counts (sofar .counts-long) M _ k);
       within = λ k h. within-by k (eqb (i .id) k) (note-at starts (sofar .starts-long) (i .id) _ k h) (note-at sizes (sofar .sizes-long) (i .id) _ k h) (sofar .within k h);
-      ending = sym (ap endOf here) ∙ sofar .ending;
+      ending = sym (ap comesToEnd here) ∙ sofar .ending;
+      reaching = sym (ap behindEnd here) ∙ sofar .reaching;
       counts-long = note-long counts (sofar .counts-long) M _;
       sizes-long = note-long sizes (sofar .sizes-long) M _;
       starts-long = note-long starts (sofar .starts-long) M _;
@@ -141,30 +152,37 @@ module _ (s : List ℕ) (at : ℕ) (counts sizes starts : List ℕ) (sofar : SoF
             → ts ≡ withNote starts m (i .start) → SoFar s (c .at) cs zs ts
         carry m e cs zs ts x y z = rw (x, y, z, e) one-more
 
-  -- where the walk stops: no item is left, so the notes say it all
-  stopped : (rest : Items) (end : ℕ) → itemsFrom s at ≡ rest → endOf rest ≡ end → ((k : ℕ) → countOf rest k ≡ 0)
-      → ((f : Item → ℕ) (d k : ℕ) → lastOf f d k rest ≡ d) → (0 < end → at ≤ end) → end ≤ length s → Noted s end counts sizes starts
-  stopped rest end here ends none-left last reached inside = record {
-    ends = sym ends ∙ sym (ap endOf here) ∙ sofar .ending;
-    counted = λ k h. omega (arith, none-left k, ap (λ (is : Items). countOf is k) here, sofar .counted k h);
-    sized = λ k h. sym (last _ _ k) ∙ ap (lastOf (λ (i : Item). i .size) (byId sizes k) k) (sym here) ∙ sofar .sized k h;
-    started = λ k h. sym (last _ _ k) ∙ ap (lastOf (λ (i : Item). i .start) (byId starts k) k) (sym here) ∙ sofar .started k h;
-    within = λ z k h. omega (arith, reached z, sofar .within k h);
-    inside = inside;
+  -- at the end item no item is left, so the notes say it all
+  noted-all : (r : Step) (c : Cursor) → r ≡ Ended c → r ≡ stepAt s at → Noted s (c .at) counts sizes starts
+  noted-all r c told stepped =
+      let here = items-by s at told stepped in
+      let place = ended-by-told s at told stepped in
+      record {
+        ends = sym (sofar .ending) ∙ ap comesToEnd here;
+        reaches = sym (ap behindEnd here) ∙ sofar .reaching;
+        counted = λ k h. omega (arith, ap (λ (is : Items). countOf is k) here, sofar .counted k h);
+        sized = λ k h. ap (lastOf (λ (i : Item). i .size) (byId sizes k) k) (sym here) ∙ sofar .sized k h;
+        started = λ k h. ap (lastOf (λ (i : Item). i .start) (byId starts k) k) (sym here) ∙ sofar .started k h;
+        within = λ k h. omega (arith, place .0, sofar .within k h);
+        inside = omega (arith, place .0, place .1);
+      }
+
+  -- what the walk answers there, and where the items break off
+  pub at-end : (r : Step) (c : Cursor) → r ≡ Ended c → r ≡ stepAt s at → Walks (walked.Ended (c .at)) s counts sizes starts
+  at-end r c told stepped = record {
+    ended = λ end e. subst (λ (x : ℕ). Noted s x counts sizes starts) (same-end (c .at) end e) (noted-all r c told stepped);
+    broken = λ e. absurd (ended-broken (c .at) e);
   }
 
-  -- at the end item, and where the items break off
-  pub at-end : (r : Step) (c : Cursor) → r ≡ Ended c → r ≡ stepAt s at → Noted s (c .at) counts sizes starts
-  at-end r c told stepped =
-      let place = ended-by-told s at told stepped in
-      stopped _ (c .at) (items-by s at told stepped) refl (λ k. refl) (λ f d k. refl) (λ z. omega (arith, place .0)) (omega (arith, place .0, place .1))
-
-  pub at-break : (r : Step) → r ≡ Broken → r ≡ stepAt s at → Noted s 0 counts sizes starts
-  at-break r told stepped = stopped _ 0 (items-by s at told stepped) refl (λ k. refl) (λ f d k. refl) (λ z. absurd (omega arith)) (omega arith)
+  pub at-break : (r : Step) → r ≡ Broken → r ≡ stepAt s at → Walks walked.Broken s counts sizes starts
+  at-break r told stepped = record {
+    ended = λ end e. absurd (ended-broken end (sym e));
+    broken = λ e. sym (sofar .ending) ∙ ap comesToEnd (items-by s at told stepped);
+  }
 
 -- the notes of all items say what the definitions say
 module _ (s : List ℕ) (end : ℕ) (counts sizes starts : List ℕ) (noted : Noted s end counts sizes starts) where
-  pub once-by-notes : every (once (byId counts) (byId sizes)) mandatory ≡ allOnce s
+  pub once-by-notes : everyPair (once (byId counts) (byId sizes)) mandatory ≡ allOnce s
   once-by-notes =
       every-same (once (byId counts) (byId sizes)) (once (countOf (items s)) (sizeOf (items s))) mandatory
       (λ p m. ap₂ (λ (x y : ℕ). eqb x 1 && eqb y (p .size)) (noted .counted (p .id) (each-placed p m)) (noted .sized (p .id) (each-placed p m)))
@@ -173,7 +191,7 @@ module _ (s : List ℕ) (end : ℕ) (counts sizes starts : List ℕ) (noted : No
   unfolding headerOf decisionOf knownItems mandatoryItems
   values-by-notes =
       rw (
-        noted .ends,
+        noted .reaches,
         noted .counted 0x12 (omega arith),
         noted .started 0x01 (omega arith),
         noted .started 0x02 (omega arith),
@@ -195,15 +213,15 @@ module _ (s : List ℕ) (end : ℕ) (counts sizes starts : List ℕ) (noted : No
 
   pub sum-by-notes : (at : ℕ) → at ≡ noteOf starts HeaderSum → sumOf (putIn (take end s) at (0 ∷ 0 ∷ [])) % 65536 ≡ headerSum s
   unfolding headerSum decisionOf knownItems mandatoryItems
-  sum-by-notes at is = ap₂ (λ (e a : ℕ). sumOf (putIn (take e s) a (0 ∷ 0 ∷ [])) % 65536) (noted .ends) (is ∙ noted .started 0x0A (omega arith))
+  sum-by-notes at is = ap₂ (λ (e a : ℕ). sumOf (putIn (take e s) a (0 ∷ 0 ∷ [])) % 65536) (noted .reaches) (is ∙ noted .started 0x0A (omega arith))
 
-  -- where no item breaks off, the items that were met are in the header, and item 0A has two bytes
-  pub names-in-header : 0 < end → (noteOf starts FileName ≤ length s) × (noteOf starts FileExtension ≤ length s)
+  -- the items that were met are in the header, and item 0A has two bytes
+  pub names-in-header : (noteOf starts FileName ≤ length s) × (noteOf starts FileExtension ≤ length s)
   unfolding decisionOf knownItems mandatoryItems
-  names-in-header h = (omega (arith, noted .within h 0x02 (omega arith), noted .inside), omega (arith, noted .within h 0x03 (omega arith), noted .inside))
+  names-in-header = (omega (arith, noted .within 0x02 (omega arith), noted .inside), omega (arith, noted .within 0x03 (omega arith), noted .inside))
 
-  pub sum-in-header : 0 < end → every (once (byId counts) (byId sizes)) mandatory ≡ true → noteOf starts HeaderSum + 2 ≤ end
+  pub sum-in-header : everyPair (once (byId counts) (byId sizes)) mandatory ≡ true → noteOf starts HeaderSum + 2 ≤ end
   unfolding decisionOf knownItems mandatoryItems
-  sum-in-header h e =
+  sum-in-header e =
       let two : noteOf sizes HeaderSum ≡ 2 = eqb-true _ _ (and-right (eqb (noteOf counts HeaderSum) 1) _ (each (once (byId counts) (byId sizes)) mandatory e (record { id = 0x0A; size = 2 }) sum-listed)) in
-      omega (arith, noted .within h 0x0A (omega arith))
+      omega (arith, noted .within 0x0A (omega arith))

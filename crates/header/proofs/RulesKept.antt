@@ -11,8 +11,8 @@ use Rattle.reason.proofs.Bools.{and-left, and-right, and-both}
 use Rattle.reason.proofs.OrderLaws.{not-both}
 use Rattle.octets.specs.Numbers.{byteAt}
 use Rattle.header.specs.declared.Header.{Header}
-use Rattle.header.specs.Items.{items, countOf, sizeOf}
-use Rattle.header.specs.Header.{beginsRight, endsRight, allOnce, uploadRight, valuesRight, headerLength, mandatory, once, headerSum, headerOf, keepsRules, readHeader}
+use Rattle.header.specs.Items.{items, countOf, sizeOf, comesToEnd}
+use Rattle.header.specs.Header.{beginsRight, allOnce, uploadRight, valuesRight, headerLength, mandatory, once, headerSum, headerOf, keepsRules, readHeader}
 use Rattle.header.specs.Rules.{valueOf, Rules}
 use Rattle.header.proofs.TableLaws.{each, all-pass}
 use Rattle.header.proofs.HeaderLaws.{reads-8, reads-header, header-accepted, header-refused}
@@ -34,22 +34,22 @@ module _ (s : List ℕ) (number : ℕ) where
   pub rules : keepsRules s number ≡ true → Rules s number
   unfolding keepsRules headerOf
   rules k =
-      let four = and-left (beginsRight s && endsRight s && allOnce s && uploadRight s) (Sum && Own && Behind && Before) k in
-      let values = and-right (beginsRight s && endsRight s && allOnce s && uploadRight s) (Sum && Own && Behind && Before) k in
-      let three = and-left (beginsRight s && endsRight s && allOnce s) (uploadRight s) four in
-      let two = and-left (beginsRight s && endsRight s) (allOnce s) three in
-      let listed = and-right (beginsRight s && endsRight s) (allOnce s) three in
-      let begun = and-left (beginsRight s) (endsRight s) two in
+      let four = and-left (beginsRight s && comesToEnd (items s) && allOnce s && uploadRight s) (Sum && Own && Behind && Before) k in
+      let values = and-right (beginsRight s && comesToEnd (items s) && allOnce s && uploadRight s) (Sum && Own && Behind && Before) k in
+      let three = and-left (beginsRight s && comesToEnd (items s) && allOnce s) (uploadRight s) four in
+      let two = and-left (beginsRight s && comesToEnd (items s)) (allOnce s) three in
+      let listed = and-right (beginsRight s && comesToEnd (items s)) (allOnce s) three in
+      let begun = and-left (beginsRight s) (comesToEnd (items s)) two in
       let sums = and-left (Sum && Own && Behind) Before values in
       let owns = and-left (Sum && Own) Behind sums in
       record {
         marker = (eqb-true _ _ (and-left (eqb (byteAt s 0) 0xAA) (eqb (byteAt s 1) 0x55) begun), eqb-true _ _ (and-right (eqb (byteAt s 0) 0xAA) (eqb (byteAt s 1) 0x55) begun));
-        ends = leb-true _ _ (and-right (beginsRight s) (endsRight s) two);
+        ends = and-right (beginsRight s) (comesToEnd (items s)) two;
         each-once = λ p m. eqb-true _ _ (and-left (eqb (countOf (items s) (p .id)) 1) (eqb (sizeOf (items s) (p .id)) (p .size)) (each (once (countOf (items s)) (sizeOf (items s))) mandatory listed p m));
         each-sized = λ p m. eqb-true _ _ (and-right (eqb (countOf (items s) (p .id)) 1) (eqb (sizeOf (items s) (p .id)) (p .size)) (each (once (countOf (items s)) (sizeOf (items s))) mandatory listed p m));
-        upload = leb-true _ _ (and-right (beginsRight s && endsRight s && allOnce s) (uploadRight s) four);
+        upload = leb-true _ _ (and-right (beginsRight s && comesToEnd (items s) && allOnce s) (uploadRight s) four);
         sum = eqb-true _ _ (and-left Sum Own owns);
-        own = eqb-true _ _ (and-right Sum Own owns);
+        numbered = eqb-true _ _ (and-right Sum Own owns);
         behind = leb-true _ _ (and-right (Sum && Own) Behind sums);
         before = leb-true _ _ (and-right (Sum && Own && Behind) Before values);
       }
@@ -65,16 +65,16 @@ module _ (s : List ℕ) (number : ℕ) where
   pub values-kept : Rules s number → valuesRight s number ≡ true
   unfolding headerOf
   values-kept r =
-      let owns = and-both Sum Own (eq-eqb _ _ (r .sum)) (eq-eqb _ _ (r .own)) in
+      let owns = and-both Sum Own (eq-eqb _ _ (r .sum)) (eq-eqb _ _ (r .numbered)) in
       and-both (Sum && Own && Behind) Before (and-both (Sum && Own) Behind owns (le-leb _ _ (r .behind))) (le-leb _ _ (r .before))
 
   pub kept : Rules s number → keepsRules s number ≡ true
   unfolding keepsRules
   kept r =
-      let two = and-both (beginsRight s) (endsRight s) (begins-kept r) (le-leb _ _ (r .ends)) in
-      let three = and-both (beginsRight s && endsRight s) (allOnce s) two (once-kept r) in
-      let four = and-both (beginsRight s && endsRight s && allOnce s) (uploadRight s) three (le-leb _ _ (r .upload)) in
-      and-both (beginsRight s && endsRight s && allOnce s && uploadRight s) (valuesRight s number) four (values-kept r)
+      let two = and-both (beginsRight s) (comesToEnd (items s)) (begins-kept r) (r .ends) in
+      let three = and-both (beginsRight s && comesToEnd (items s)) (allOnce s) two (once-kept r) in
+      let four = and-both (beginsRight s && comesToEnd (items s) && allOnce s) (uploadRight s) three (le-leb _ _ (r .upload)) in
+      and-both (beginsRight s && comesToEnd (items s) && allOnce s && uploadRight s) (valuesRight s number) four (values-kept r)
 
   -- accepted exactly if it keeps them, and then with its values
   pub accepts-if : Rules s number → readHeader s number ≡ accepted (headerOf s)

@@ -2,7 +2,7 @@
 -- Assumes nothing.
 use mathlib.Core.Path.{_≡_, refl, sym, ap, subst, _∙_}
 use mathlib.Core.Bool.{Bool, true, false, cond}
-use mathlib.Core.List.{List, [], _∷_, List·Memᴰ}
+use mathlib.Core.List.{List, [], _∷_}
 use Prim.Native.Nat.{ℕ, zero, suc, _+_, _≤_, _<_}
 use native.Mathlib.Nat.{add-zero}
 use native.Mathlib.Omega.{arith}
@@ -11,6 +11,7 @@ use lib.ListN.{length, getD, take, drop}
 use lib.Seq.{drop-cons}
 use borrow.Author.Tests.{eqb-false}
 use Rattle.reason.specs.Answer.{accepted}
+use Rattle.octets.specs.Lists.{OneOf}
 use Rattle.octets.specs.Numbers.{byteAt, numberAt}
 use Rattle.octets.proofs.NumberLaws.{number-drop, number-take}
 use Rattle.header.specs.declared.Upload.the-variants.{Time, Absent}
@@ -61,7 +62,7 @@ in-item n id s h =
 module _ (s : List ℕ) (number : ℕ) (r : Rules s number) where
   -- the length of each item that is told: that of the table, and 4 of item 12
   listed : (k id size : ℕ) → k < 11 → getD mandatory k (record { id = 0; size = 0 }) ≡ record { id = id; size = size } → sizeOf (items s) id ≡ size
-  listed k id size h e = r .each-sized (record { id = id; size = size }) (subst (λ (p : Pair). List·Memᴰ p mandatory) e (in-list mandatory (record { id = 0; size = 0 }) k (omega (arith, eleven))))
+  listed k id size h e = r .each-sized (record { id = id; size = size }) (subst (λ (p : Pair). OneOf p mandatory) e (in-list mandatory (record { id = 0; size = 0 }) k (omega (arith, eleven))))
 
   upload-by : (b : Bool) → eqb (countOf (items s) 0x12) 0 ≡ b
       → cond b Absent (Time (numberAt 4 s (startOf (items s) 0x12))) ≡ cond b Absent (Time (numberAt 4 (dataOf 0x12 s) 0))
@@ -72,9 +73,11 @@ module _ (s : List ℕ) (number : ℕ) (r : Rules s number) where
   unfolding headerOf mandatoryItems dataOf
   says = record {
     ruled = r;
-    named = r .own;
-    number = in-item 4 0x01 s (listed 0 0x01 4 (omega arith) refl);
-    size = in-item 4 0x04 s (listed 3 0x04 4 (omega arith) refl);
+    size = refl;
+    within = end-within s (r .ends);
+    numbered = r .numbered;
+    number-item = in-item 4 0x01 s (listed 0 0x01 4 (omega arith) refl);
+    length = in-item 4 0x04 s (listed 3 0x04 4 (omega arith) refl);
     created = in-item 4 0x05 s (listed 4 0x05 4 (omega arith) refl);
     modified = in-item 4 0x06 s (listed 5 0x06 4 (omega arith) refl);
     upset = sym (add-zero _) ∙ in-item 1 0x07 s (listed 6 0x07 1 (omega arith) refl);
@@ -89,8 +92,6 @@ module _ (s : List ℕ) (number : ℕ) (r : Rules s number) where
         let size : sizeOf (items s) 0x03 ≡ 3 = listed 2 0x03 3 (omega arith) refl in
         sym (ap (λ (n : ℕ). take n (drop (startOf (items s) 0x03) s)) size ∙ three s (startOf (items s) 0x03) (omega (arith, item-within s 0x03)));
     upload = upload-by (eqb (countOf (items s) 0x12) 0) refl;
-    bytes = refl;
-    within = end-within s;
     behind = r .behind;
     before = r .before;
   }

@@ -17,15 +17,15 @@ use Rattle.header.specs.declared.Upload.the-variants.{Time, Absent}
 use Rattle.header.specs.declared.Header.{Header}
 use Rattle.header.specs.declared.HeaderRead.{HeaderRead}
 use Rattle.header.specs.declared.HeaderRead.the-variants.{Accepted, Refused}
-use Rattle.header.specs.Items.{Known, known, mandatoryItems, items, countOf, startOf, sizeOf, endOf}
+use Rattle.header.specs.Items.{Known, known, mandatoryItems, items, countOf, startOf, sizeOf, comesToEnd, behindEnd}
 
 -- the first two bytes are AA 55
 abbrev pub beginsRight : List ℕ → Bool
 beginsRight s = eqb (byteAt s 0) 0xAA && eqb (byteAt s 1) 0x55
 
--- the header's length, from AA 55 to the end item, and 0 if its items break off
+-- the header's length, from AA 55 to the end item
 abbrev pub headerLength : List ℕ → ℕ
-headerLength s = endOf (items s)
+headerLength s = behindEnd (items s)
 
 -- known items as pairs of id and length
 abbrev pub pairsOf : List Known → List Pair
@@ -37,9 +37,9 @@ abbrev pub mandatory : List Pair
 mandatory = pairsOf mandatoryItems
 
 -- every pair passes the test
-abbrev pub every : (Pair → Bool) → List Pair → Bool
-every test [] = true
-every test (p ∷ rest) = test p && every test rest
+abbrev pub everyPair : (Pair → Bool) → List Pair → Bool
+everyPair test [] = true
+everyPair test (p ∷ rest) = test p && everyPair test rest
 
 -- the pair's item is there exactly once, with its length; count and size tell of each id how many items have it, and how
 -- long their data are
@@ -55,9 +55,9 @@ sumOf (b ∷ s) = b + sumOf s
 unfoldable pub headerSum : List ℕ → ℕ
 headerSum s = sumOf (putIn (take (headerLength s) s) (startOf (items s) 0x0A) (0 ∷ 0 ∷ [])) % 65536
 
--- item 0A is the sum, item 01 the file's number, and item 0B (body) at least the header's length (bytes) and at most item 04 (size)
+-- item 0A is the sum, item 01 the file's number, and item 0B (body) at least the header's length (size) and at most item 04 (length)
 abbrev pub valuesAgree : Header → ℕ → ℕ → Bool
-valuesAgree h sum number = eqb (h .headersum) sum && eqb (h .number) number && leb (h .bytes) (h .body) && leb (h .body) (h .size)
+valuesAgree h sum number = eqb (h .headersum) sum && eqb (h .number) number && leb (h .size) (h .body) && leb (h .body) (h .length)
 
 -- the bytes of items 02 and 03 in their order
 abbrev pub nameAt : List ℕ → ℕ → Name
@@ -89,11 +89,11 @@ uploadBy count at s = cond (eqb count 0) Absent (Time (numberAt 4 s at))
 -- the values of all items of a header of so many bytes; count and start tell of each id how many items have it, and where their
 -- data start
 abbrev pub valuesBy : (ℕ → ℕ) → (ℕ → ℕ) → ℕ → List ℕ → Header
-valuesBy count start bytes s = record {
+valuesBy count start size s = record {
   number = numberAt 4 s (start 0x01);
   name = nameAt s (start 0x02);
   extension = extensionAt s (start 0x03);
-  size = numberAt 4 s (start 0x04);
+  length = numberAt 4 s (start 0x04);
   created = numberAt 4 s (start 0x05);
   modified = numberAt 4 s (start 0x06);
   upset = byteAt s (start 0x07);
@@ -102,20 +102,16 @@ valuesBy count start bytes s = record {
   headersum = numberAt 2 s (start 0x0A);
   body = numberAt 2 s (start 0x0B);
   upload = uploadBy (count 0x12) (start 0x12) s;
-  bytes = bytes;
+  size = size;
 }
 
 -- the values of the header that s starts with
 unfoldable pub headerOf : List ℕ → Header
 headerOf s = valuesBy (countOf (items s)) (startOf (items s)) (headerLength s) s
 
--- its items come to the end item
-abbrev pub endsRight : List ℕ → Bool
-endsRight s = leb 1 (headerLength s)
-
 -- each mandatory item is there exactly once, with its length
 abbrev pub allOnce : List ℕ → Bool
-allOnce s = every (once (countOf (items s)) (sizeOf (items s))) mandatory
+allOnce s = everyPair (once (countOf (items s)) (sizeOf (items s))) mandatory
 
 -- item 12 is there at most once
 abbrev pub uploadRight : List ℕ → Bool
@@ -127,7 +123,7 @@ valuesRight s number = valuesAgree (headerOf s) (headerSum s) number
 
 -- the header keeps every rule: `Rules` says them one by one
 unfoldable pub keepsRules : List ℕ → ℕ → Bool
-keepsRules s number = beginsRight s && endsRight s && allOnce s && uploadRight s && valuesRight s number
+keepsRules s number = beginsRight s && comesToEnd (items s) && allOnce s && uploadRight s && valuesRight s number
 
 -- the order in reading a header: 8
 abbrev pub headerChecks : List ℕ → ℕ → List Check

@@ -1,13 +1,13 @@
 -- The items of a file header (01, "File header"): what an id decides, one step of the cursor, and all items up to the end.
 -- Assumes nothing.
-use mathlib.Core.Bool.{Bool, true, not, cond}
+use mathlib.Core.Bool.{Bool, true, false, not, cond}
 use mathlib.Core.List.{List, [], _∷_, _++_}
 use Prim.Native.Nat.{ℕ, zero, suc, _+_}
 use lib.Dec.{ltb, eqb}
 use lib.ListN.{length}
 use Rattle.octets.specs.Numbers.{byteAt, numberAt}
 use Rattle.header.specs.declared.Meaning.{Meaning}
-use Rattle.header.specs.declared.Meaning.the-variants.{End, FileNumber, FileName, FileExtension, FileSize, CreationTime, ModificationTime, UpsetFlag, FileType, BodySum, HeaderSum, BodyOffset, UploadTime, Other}
+use Rattle.header.specs.declared.Meaning.the-variants.{End, FileNumber, FileName, FileExtension, FileLength, CreationTime, ModificationTime, UpsetFlag, FileType, BodySum, HeaderSum, BodyOffset, UploadTime, Other}
 use Rattle.header.specs.declared.Size.{Size}
 use Rattle.header.specs.declared.Size.the-variants.{Exactly, Any}
 use Rattle.header.specs.declared.Decision.{Decision}
@@ -25,7 +25,7 @@ mandatoryItems =
     known 0x01 4 FileNumber
     ∷ known 0x02 8 FileName
     ∷ known 0x03 3 FileExtension
-    ∷ known 0x04 4 FileSize
+    ∷ known 0x04 4 FileLength
     ∷ known 0x05 4 CreationTime
     ∷ known 0x06 4 ModificationTime
     ∷ known 0x07 1 UpsetFlag
@@ -111,8 +111,14 @@ startOf is id = lastOf (λ (i : Item). i .start) 0 id is
 abbrev pub sizeOf : Items → ℕ → ℕ
 sizeOf is id = lastOf (λ (i : Item). i .size) 0 id is
 
--- the place behind the end item, and 0 if the items break off
-abbrev pub endOf : Items → ℕ
-endOf (item i rest) = endOf rest
-endOf (ended e) = e
-endOf broken = 0
+-- the items come to the end item
+abbrev pub comesToEnd : Items → Bool
+comesToEnd (item i rest) = comesToEnd rest
+comesToEnd (ended e) = true
+comesToEnd broken = false
+
+-- the place behind the end item; nothing asks for it where the items break off
+abbrev pub behindEnd : Items → ℕ
+behindEnd (item i rest) = behindEnd rest
+behindEnd (ended e) = e
+behindEnd broken = 0

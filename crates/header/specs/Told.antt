@@ -7,7 +7,7 @@ use mathlib.Core.Logic.{_⊎_}
 use Prim.Native.Nat.{ℕ}
 use Rattle.octets.specs.Numbers.{numberAt}
 use Rattle.header.specs.declared.Meaning.{Meaning}
-use Rattle.header.specs.declared.Meaning.the-variants.{End, FileNumber, FileName, FileExtension, FileSize, CreationTime, ModificationTime, UpsetFlag, FileType, BodySum, HeaderSum, BodyOffset, UploadTime, Other}
+use Rattle.header.specs.declared.Meaning.the-variants.{End, FileNumber, FileName, FileExtension, FileLength, CreationTime, ModificationTime, UpsetFlag, FileType, BodySum, HeaderSum, BodyOffset, UploadTime, Other}
 use Rattle.header.specs.declared.Item.{Item}
 use Rattle.header.specs.declared.Upload.the-variants.{Time}
 use Rattle.header.specs.declared.Header.{Header}
@@ -27,7 +27,7 @@ Tells h End bytes = Unit {0}
 Tells h FileNumber bytes = h .number ≡ numberAt 4 bytes 0
 Tells h FileName bytes = nameBytes (h .name) ≡ bytes
 Tells h FileExtension bytes = extensionBytes (h .extension) ≡ bytes
-Tells h FileSize bytes = h .size ≡ numberAt 4 bytes 0
+Tells h FileLength bytes = h .length ≡ numberAt 4 bytes 0
 Tells h CreationTime bytes = h .created ≡ numberAt 4 bytes 0
 Tells h ModificationTime bytes = h .modified ≡ numberAt 4 bytes 0
 Tells h UpsetFlag bytes = h .upset ≡ numberAt 1 bytes 0

@@ -10,6 +10,7 @@ mod notes;
 mod values;
 
 use notes::PLACES;
+use notes::Walked;
 ghost use mathlib.Core.Path.{_≡_};
 ghost use Rattle.header.specs.Items.{decisionOf, allowsSize, stepAt};
 ghost use Rattle.header.specs.Header.{headerAnswer, readHeader};
@@ -21,7 +22,7 @@ pub enum Meaning {
     FileNumber,
     FileName,
     FileExtension,
-    FileSize,
+    FileLength,
     CreationTime,
     ModificationTime,
     UpsetFlag,
@@ -98,14 +99,14 @@ pub enum Upload {
 }
 
 // The values of a header's items, in their order 01 to 0B and then 12: the file's number, name and
-// extension, its size with its header, the times of its creation and last modification, whether an upset
+// extension, its length with its header, the times of its creation and last modification, whether an upset
 // was detected, its type, the sums of body and header, where the body starts, and the upload time; and
-// the header's own length in bytes.
+// how many bytes the header itself has.
 pub struct Header {
     pub number: u32,
     pub name: Name,
     pub extension: Extension,
-    pub size: u32,
+    pub length: u32,
     pub created: u32,
     pub modified: u32,
     pub upset: u8,
@@ -114,7 +115,7 @@ pub struct Header {
     pub headersum: u16,
     pub body: u16,
     pub upload: Upload,
-    pub bytes: usize,
+    pub size: usize,
 }
 
 // What reading a header finds: its values, or the number of the reason.
@@ -133,7 +134,7 @@ pub fn decide(id: u16) -> Decision
         0x01 => exactly(4, Meaning::FileNumber),
         0x02 => exactly(8, Meaning::FileName),
         0x03 => exactly(3, Meaning::FileExtension),
-        0x04 => exactly(4, Meaning::FileSize),
+        0x04 => exactly(4, Meaning::FileLength),
         0x05 => exactly(4, Meaning::CreationTime),
         0x06 => exactly(4, Meaning::ModificationTime),
         0x07 => exactly(1, Meaning::UpsetFlag),
@@ -236,10 +237,9 @@ pub fn read_header(s: &[u8], number: u32) -> HeaderRead
     let mut counts = [0; PLACES];
     let mut sizes = [0; PLACES];
     let mut starts = [0; PLACES];
-    let end = notes::walk(s, &mut counts, &mut sizes, &mut starts);
-    if end == 0 {
+    let Walked::Ended(end) = notes::walk(s, &mut counts, &mut sizes, &mut starts) else {
         return HeaderRead::Refused(8);
-    }
+    };
     if !notes::all_once(&counts, &sizes) {
         return HeaderRead::Refused(8);
     }

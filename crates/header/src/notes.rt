@@ -7,8 +7,8 @@ use super::Pair;
 use super::Step;
 ghost use mathlib.Core.Path.{_≡_};
 ghost use Prim.Native.Nat.{_+_, _<_};
-ghost use Rattle.header.specs.Header.{mandatory, every, once};
-ghost use Rattle.header.specs.Notes.{places, placeOf, none, noteOf, byId, withNote, Noted};
+ghost use Rattle.header.specs.Header.{mandatory, everyPair, once};
+ghost use Rattle.header.specs.Notes.{places, placeOf, none, noteOf, byId, withNote, Walks};
 
 // How many places the notes have, one for each meaning.
 pub(crate) const PLACES: usize = 14;
@@ -28,16 +28,21 @@ const MANDATORY: [Pair; 11] = [
     Pair { id: 0x0B, size: 2 },
 ];
 
-// Walks over all items of the header, notes each, and answers the header's length, or 0 where the
-// items break off.
+// What a walk over all items comes to: the end item, and the place behind it; or items that break off.
+pub(crate) enum Walked {
+    Ended(usize),
+    Broken,
+}
+
+// Walks over all items of the header, notes each, and answers where they end.
 pub(crate) fn walk(
     s: &[u8],
     counts: &mut [usize; PLACES],
     sizes: &mut [usize; PLACES],
     starts: &mut [usize; PLACES],
-) -> usize
+) -> Walked
     requires { ⌜ (now counts ≡ none) × (now sizes ≡ none) × (now starts ≡ none) ⌝ }
-    ensures { λ r. ⌜ Noted (now (s .entry)) r (now (counts .exit)) (now (sizes .exit)) (now (starts .exit)) ⌝ }
+    ensures { λ r. ⌜ Walks r (now (s .entry)) (now (counts .exit)) (now (sizes .exit)) (now (starts .exit)) ⌝ }
 {
     let mut cursor = Cursor::first();
     loop {
@@ -46,8 +51,8 @@ pub(crate) fn walk(
                 note(counts, sizes, starts, item);
                 cursor = next;
             }
-            Step::Ended(end) => return end.at,
-            Step::Broken => return 0,
+            Step::Ended(end) => return Walked::Ended(end.at),
+            Step::Broken => return Walked::Broken,
         }
     }
 }
@@ -80,7 +85,7 @@ fn place(meaning: Meaning) -> usize
         Meaning::FileNumber => 1,
         Meaning::FileName => 2,
         Meaning::FileExtension => 3,
-        Meaning::FileSize => 4,
+        Meaning::FileLength => 4,
         Meaning::CreationTime => 5,
         Meaning::ModificationTime => 6,
         Meaning::UpsetFlag => 7,
@@ -103,7 +108,7 @@ pub(crate) fn noted(notes: &[usize; PLACES], meaning: Meaning) -> usize
 
 // Whether each mandatory item was met exactly once, with its length.
 pub(crate) fn all_once(counts: &[usize; PLACES], sizes: &[usize; PLACES]) -> bool
-    ensures { λ r. ⌜ r ≡ every (once (byId (now (counts .entry))) (byId (now (sizes .entry)))) mandatory ⌝ }
+    ensures { λ r. ⌜ r ≡ everyPair (once (byId (now (counts .entry))) (byId (now (sizes .entry)))) mandatory ⌝ }
 {
     let table = MANDATORY;
     for k in 0..11 {

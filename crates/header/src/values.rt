@@ -37,7 +37,7 @@ pub(crate) fn values(
     let number = four(s, starts, Meaning::FileNumber);
     let name = name_at(s, noted(starts, Meaning::FileName));
     let extension = extension_at(s, noted(starts, Meaning::FileExtension));
-    let size = four(s, starts, Meaning::FileSize);
+    let length = four(s, starts, Meaning::FileLength);
     let created = four(s, starts, Meaning::CreationTime);
     let modified = four(s, starts, Meaning::ModificationTime);
     let upset = one(s, starts, Meaning::UpsetFlag);
@@ -51,7 +51,7 @@ pub(crate) fn values(
         number,
         name,
         extension,
-        size,
+        length,
         created,
         modified,
         upset,
@@ -60,7 +60,7 @@ pub(crate) fn values(
         headersum,
         body,
         upload,
-        bytes: end,
+        size: end,
     }
 }
 
@@ -80,8 +80,8 @@ pub(crate) fn agree(h: Header, sum: u32, number: u32) -> bool
 {
     ((h.headersum as u32) == sum)
         & (h.number == number)
-        & (h.bytes <= (h.body as usize))
-        & ((h.body as u32) <= h.size)
+        & (h.size <= (h.body as usize))
+        & ((h.body as u32) <= h.length)
 }
 
 // The sum of all bytes of s modulo 65,536.

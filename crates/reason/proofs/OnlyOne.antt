@@ -5,7 +5,7 @@ use mathlib.Core.List.{List}
 use Prim.Native.Nat.{ℕ}
 use Rattle.reason.specs.declared.Outcome.{Outcome}
 use Rattle.reason.specs.declared.Outcome.the-variants.{Accepted, Refused}
-use Rattle.reason.specs.Answer.{Answer, accepted, refused, outcome, Wrote, Writes}
+use Rattle.reason.specs.Answer.{Answer, accepted, refused, outcome, Writes, WritesAndTells}
 
 -- two results that are both what a definition says are the same
 pub only-one : {A : Type 0} {v : A} (p q : A) → p ≡ v → q ≡ v → p ≡ q
@@ -30,13 +30,13 @@ pub one-outcome : {v : Answer Unit} (r q : Outcome) → outcome r ≡ v → outc
 one-outcome r q d e = only-one-meant outcome outcome-case outcome-back r q d e
 
 -- a writer's answer and the bytes that it leaves are fixed
-pub only-one-written : (lent : List ℕ) (m : Answer (List ℕ)) (r q : Outcome) (left also : List ℕ) → Wrote lent m r left
-    → Wrote lent m q also → (r ≡ q) × (left ≡ also)
-only-one-written lent m r q left also d e = (one-outcome r q (d .answer) (e .answer), only-one left also (d .bytes) (e .bytes))
+pub only-one-written : (lent : List ℕ) (m : Answer (List ℕ)) (r q : Outcome) (left also : List ℕ) → Writes lent m r left
+    → Writes lent m q also → (r ≡ q) × (left ≡ also)
+only-one-written lent m r q left also d e = (one-outcome r q (d .answers) (e .answers), only-one left also (d .bytes) (e .bytes))
 
 -- .. and so are those of one that tells values, where no two cases of its answer have one meaning
 pub only-one-told : {X A : Type 0} (meaning : X → Answer A) (case : Answer A → X) → ((x : X) → case (meaning x) ≡ x) → (lent : List ℕ) (answer : Answer A)
-    (made : A → List ℕ) (r q : X) (left also : List ℕ) → Writes lent answer made (meaning r) left → Writes lent answer made (meaning q) also
+    (made : A → List ℕ) (r q : X) (left also : List ℕ) → WritesAndTells lent answer made (meaning r) left → WritesAndTells lent answer made (meaning q) also
     → (r ≡ q) × (left ≡ also)
 only-one-told meaning case back lent answer made r q left also d e =
     (only-one-meant meaning case back r q (d .answers) (e .answers), only-one left also (d .bytes) (e .bytes))

@@ -34,12 +34,12 @@ outcome (Refused n) = refused n
 
 -- The promise of an operation that writes to one lent list and has no value to tell. `made` is the list that it makes of
 -- `lent`, or its refusal; `r` is what the function answers and `left` is what it leaves.
-pub record Wrote (lent : List ℕ) (made : Answer (List ℕ)) (r : Outcome) (left : List ℕ) : Type 0 where
-  pub answer : outcome r ≡ telling (λ l. tt) made
+pub record Writes (lent : List ℕ) (made : Answer (List ℕ)) (r : Outcome) (left : List ℕ) : Type 0 where
+  pub answers : outcome r ≡ telling (λ l. tt) made
   pub bytes : left ≡ leaving (λ l. l) lent made
 
 -- The promise of an operation that writes to one lent list and tells values. `answer` is its definition's answer, and `made` the list that
 -- it makes of `lent` where it accepts; `told` is the meaning of what the function answers and `left` is what it leaves.
-pub record Writes {A : Type 0} (lent : List ℕ) (answer : Answer A) (made : A → List ℕ) (told : Answer A) (left : List ℕ) : Type 0 where
+pub record WritesAndTells {A : Type 0} (lent : List ℕ) (answer : Answer A) (made : A → List ℕ) (told : Answer A) (left : List ℕ) : Type 0 where
   pub answers : told ≡ answer
   pub bytes : left ≡ leaving made lent answer

@@ -14,9 +14,9 @@ use Rattle.reception.specs.Reception.{Reception}
 use Rattle.record.specs.declared.Recorded.{Recorded}
 use Rattle.record.specs.declared.Saved.the-variants as saved
 use Rattle.record.specs.declared.RecordRead.the-variants as record-read
-use Rattle.record.specs.Record.{field, savedMap, savedBytes, recordOf, recordLength}
+use Rattle.record.specs.Record.{field, savedMap, savedBuffer, recordOf, recordLength}
 use Rattle.record.specs.Saving.{saving, savedAnswer, Saves}
-use Rattle.record.specs.Reading.{mapIn, bytesIn, isRecord, readRecord, mapRead, recordAnswer}
+use Rattle.record.specs.Reading.{mapIn, bufferIn, isRecord, readRecord, mapRead, recordAnswer}
 use Rattle.record.specs.Loading.{loading, loadedMap, loadedBuffer, loaded, Loads}
 
 -- the input of the hole program in 01: number 7, length 20, held 0 to 3 and 8 to 9
@@ -79,7 +79,7 @@ pub record Cases : Type 0 where
   pub map-of-7 : savedMap 7 (0xFF ∷ []) ≡ 0x7F ∷ []
   pub map-of-8 : savedMap 8 (0xFF ∷ 0xFF ∷ []) ≡ 0xFF ∷ []
   pub map-of-9 : savedMap 9 (0xFF ∷ 0xFF ∷ []) ≡ 0xFF ∷ 0x01 ∷ []
-  pub bytes-of-3 : savedBytes 3 (0xFD ∷ []) (1 ∷ 2 ∷ 3 ∷ 4 ∷ []) ≡ 1 ∷ 0 ∷ 3 ∷ []
+  pub bytes-of-3 : savedBuffer 3 (0xFD ∷ []) (1 ∷ 2 ∷ 3 ∷ 4 ∷ []) ≡ 1 ∷ 0 ∷ 3 ∷ []
   -- a field of more than 255 bytes, and how long records are
   pub length-of-300 : take 7 (drop 7 (recordOf (sized 300 [] []))) ≡ 0x02 ∷ 0x04 ∷ 0x00 ∷ 0x2C ∷ 0x01 ∷ 0x00 ∷ 0x00 ∷ []
   pub record-of-300 : readRecord (recordOf (sized 300 (replicate 38 0xFF) (rubbish 300))) ≡ says 0x12345678 300
@@ -109,7 +109,7 @@ pub record Cases : Type 0 where
   pub is-one : isRecord sample ≡ true
   pub is-read : readRecord sample ≡ says 7 20
   pub its-map : mapIn sample ≡ 0x0F ∷ 0x03 ∷ 0x00 ∷ []
-  pub its-bytes : bytesIn sample ≡ 0x41 ∷ 0x42 ∷ 0x43 ∷ 0x44 ∷ 0 ∷ 0 ∷ 0 ∷ 0 ∷ 0x45 ∷ 0x46 ∷ replicate 10 0
+  pub its-bytes : bufferIn sample ≡ 0x41 ∷ 0x42 ∷ 0x43 ∷ 0x44 ∷ 0 ∷ 0 ∷ 0 ∷ 0 ∷ 0x45 ∷ 0x46 ∷ replicate 10 0
   pub smallest-is-read : readRecord smallest ≡ says 0x12345678 1
   pub number-0 : readRecord (set sample 3 0) ≡ says 0 20
   pub number-4294967295 : readRecord (set (set (set (set sample 3 0xFF) 4 0xFF) 5 0xFF) 6 0xFF) ≡ says 4294967295 20

@@ -13,7 +13,7 @@ use Rattle.reason.specs.Answer.{accepted, refused, leaving}
 use Rattle.reason.specs.Order.{check}
 use Rattle.reason.proofs.Bools.{and-left, and-right, or-none}
 use Rattle.reason.proofs.OrderLaws.{accepted-only-if, skip, stop, none-left}
-use Rattle.reason.proofs.Writing.{writes-refused, writes-accepted}
+use Rattle.reason.proofs.Writing.{tells-refused, tells-accepted}
 use Rattle.octets.specs.Runs.{putIn, Put}
 use Rattle.octets.proofs.RunLaws.{put-fits}
 use Rattle.positions.specs.Map.{mapSize}
@@ -22,15 +22,17 @@ use Rattle.reception.proofs.OfferLaws.{right-length, enough-space}
 use Rattle.record.specs.declared.Saved.the-variants as saved
 use Rattle.record.specs.declared.Recorded.{Recorded}
 use Rattle.record.specs.declared.RecordRead.the-variants.{Accepted, Refused}
-use Rattle.record.specs.Record.{recordOf, mapAt, bytesAt, recordLength}
-use Rattle.record.specs.Reading.{lengthIn, mapIn, bytesIn, fieldsRight, spareClear, unheldClear, isRecord, recordedIn, readRecord, mapRead}
+use Rattle.record.specs.Record.{recordOf, mapAt, bufferAt, recordLength}
+use Rattle.record.specs.Reading.{lengthIn, mapIn, bufferIn, fieldsRight, spareClear, unheldClear, isRecord, recordedIn, readRecord, mapRead}
 use Rattle.record.specs.Saving.{saving, Saves}
 use Rattle.record.specs.Loading.{loading, loadedMap, loadedBuffer, Loads}
+use Rattle.record.specs.Inner.{partBy}
+use Rattle.record.proofs.ReadSteps.{map-by-is, buffer-by-is}
 
 -- ---- whether it is a record
 -- by its five tests
 record-by : (s : List ℕ) (a b c d e : Bool) → wrongLength (lengthIn s) ≡ a → eqb (length s) (recordLength (lengthIn s)) ≡ b
-    → fieldsRight (lengthIn s) s ≡ c → spareClear (lengthIn s) (mapIn s) ≡ d → unheldClear (lengthIn s) (mapIn s) (bytesIn s) ≡ e
+    → fieldsRight (lengthIn s) s ≡ c → spareClear (lengthIn s) (mapIn s) ≡ d → unheldClear (lengthIn s) (mapIn s) (bufferIn s) ≡ e
     → isRecord s ≡ (not a && b && c && d && e)
 unfolding isRecord
 record-by s a b c d e f g h i j = ap₂ _&&_ (ap₂ _&&_ (ap₂ _&&_ (ap₂ _&&_ (ap not f) g) h) i) j
@@ -41,7 +43,7 @@ pub record Formed (s : List ℕ) : Type 0 where
   pub long : length s ≡ recordLength (lengthIn s)
   pub fields : fieldsRight (lengthIn s) s ≡ true
   pub spare : spareClear (lengthIn s) (mapIn s) ≡ true
-  pub unheld : unheldClear (lengthIn s) (mapIn s) (bytesIn s) ≡ true
+  pub unheld : unheldClear (lengthIn s) (mapIn s) (bufferIn s) ≡ true
 
 -- a list that passes keeps to each rule
 pub is-formed : (s : List ℕ) → isRecord s ≡ true → Formed s
@@ -51,7 +53,7 @@ is-formed s e =
     let b = eqb (length s) (recordLength (lengthIn s)) in
     let c = fieldsRight (lengthIn s) s in
     let d = spareClear (lengthIn s) (mapIn s) in
-    let u = unheldClear (lengthIn s) (mapIn s) (bytesIn s) in
+    let u = unheldClear (lengthIn s) (mapIn s) (bufferIn s) in
     let four : (not a && b && c && d) ≡ true = and-left (not a && b && c && d) u e in
     let three : (not a && b && c) ≡ true = and-left (not a && b && c) d four in
     let two : (not a && b) ≡ true = and-left (not a && b) c three in record {
@@ -71,8 +73,8 @@ formed-is s f =
 pub map-in-long : (s : List ℕ) → recordLength (lengthIn s) ≤ length s → length (mapIn s) ≡ mapSize (lengthIn s)
 map-in-long s h = let l = lengthIn s in length-take-le (mapSize l) (drop mapAt s) (simp length-drop (omega arith))
 
-pub bytes-in-long : (s : List ℕ) → recordLength (lengthIn s) ≤ length s → length (bytesIn s) ≡ lengthIn s
-bytes-in-long s h = let l = lengthIn s in length-take-le l (drop (bytesAt l) s) (simp length-drop (omega arith))
+pub buffer-in-long : (s : List ℕ) → recordLength (lengthIn s) ≤ length s → length (bufferIn s) ≡ lengthIn s
+buffer-in-long s h = let l = lengthIn s in length-take-le l (drop (bufferAt l) s) (simp length-drop (omega arith))
 
 -- test by test, by the length that is read
 module _ (s : List ℕ) (l : ℕ) (is : l ≡ lengthIn s) where
@@ -101,36 +103,46 @@ module _ (s : List ℕ) (l : ℕ) (is : l ≡ lengthIn s) where
       pub fails-fields : fieldsRight l s ≡ false → false ≡ isRecord s
       fails-fields e = sym (record-by s false true false _ _ right-in same-in (ap (λ (k : ℕ). fieldsRight k s) (sym is) ∙ e) refl refl)
 
-      -- what its map and bytes are read for
-      pub map-enough : (m : List ℕ) → m ≡ mapIn s → (l ≤ longest) × (l ≤ length m * 8)
+      -- its map and its bytes, by that length, and what they are read for
+      enough : recordLength l ≤ length s
+      enough = omega (arith, long)
+
+      map-is : (m : List ℕ) → m ≡ partBy s mapAt (mapSize l) → m ≡ mapIn s
+      map-is m e = e ∙ map-by-is s l is enough
+
+      buffer-is : (b : List ℕ) → b ≡ partBy s (bufferAt l) l → b ≡ bufferIn s
+      buffer-is b e = e ∙ buffer-by-is s l is enough
+
+      pub map-enough : (m : List ℕ) → m ≡ partBy s mapAt (mapSize l) → (l ≤ longest) × (l ≤ length m * 8)
       map-enough m e =
           let w = right-length l right in
-          let k = ap length e ∙ map-in-long s (let j = long-in in omega (arith, j)) in
+          let k = ap length (map-is m e) ∙ map-in-long s (let j = long-in in omega (arith, j)) in
           (w .1, omega (arith, k, is))
 
-      pub bytes-enough : (m b : List ℕ) → m ≡ mapIn s → b ≡ bytesIn s → (l ≤ longest) × (l ≤ length m * 8) × (l ≤ length b)
+      pub bytes-enough : (m b : List ℕ) → m ≡ partBy s mapAt (mapSize l) → b ≡ partBy s (bufferAt l) l → (l ≤ longest) × (l ≤ length m * 8) × (l ≤ length b)
       bytes-enough m b e f =
           let w = map-enough m e in
-          let k = ap length f ∙ bytes-in-long s (let j = long-in in omega (arith, j)) in
+          let k = ap length (buffer-is b f) ∙ buffer-in-long s (let j = long-in in omega (arith, j)) in
           (w .0, w .1, omega (arith, k, is))
 
       module _ (fields : fieldsRight l s ≡ true) where
         fields-in : fieldsRight (lengthIn s) s ≡ true
         fields-in = ap (λ (k : ℕ). fieldsRight k s) (sym is) ∙ fields
 
-        module _ (m : List ℕ) (is-map : m ≡ mapIn s) where
+        module _ (m : List ℕ) (is-map : m ≡ partBy s mapAt (mapSize l)) where
           spare-by : (b : Bool) → spareClear l m ≡ b → spareClear (lengthIn s) (mapIn s) ≡ b
-          spare-by b e = ap₂ spareClear (sym is) (sym is-map) ∙ e
+          spare-by b e = ap₂ spareClear (sym is) (sym (map-is m is-map)) ∙ e
 
           -- a spare bit is set
           pub fails-spare : spareClear l m ≡ false → false ≡ isRecord s
           fails-spare e = sym (record-by s false true true false _ right-in same-in fields-in (spare-by false e) refl)
 
           -- all but its unheld bytes is right, and they decide
-          pub by-unheld : spareClear l m ≡ true → (b : List ℕ) → b ≡ bytesIn s → unheldClear l m b ≡ isRecord s
-          by-unheld e b is-bytes =
+          pub by-unheld : spareClear l m ≡ true → (b : List ℕ) → b ≡ partBy s (bufferAt l) l → unheldClear l m b ≡ isRecord s
+          by-unheld e b is-buffer =
               sym (record-by s false true true true _ right-in same-in fields-in (spare-by true e)
-              (ap₂ (λ (k : ℕ) (n : List ℕ). unheldClear k n (bytesIn s)) (sym is) (sym is-map) ∙ ap (unheldClear l m) (sym is-bytes)))
+              (ap₂ (λ (k : ℕ) (n : List ℕ). unheldClear k n (bufferIn s)) (sym is) (sym (map-is m is-map))
+              ∙ ap (unheldClear l m) (sym (buffer-is b is-buffer))))
 
 -- ---- reading
 module _ (s : List ℕ) where
@@ -181,11 +193,11 @@ module _ (s : Reception) (target : List ℕ) where
 
   -- how `save` meets its promise
   pub saves-refused : (n : ℕ) → saving s target ≡ refused n → Saves s target (saved.Refused n) target
-  saves-refused n e = writes-refused target (saving s target) (λ n. putIn target 0 (recordOf s)) target n e refl
+  saves-refused n e = tells-refused target (saving s target) (λ n. putIn target 0 (recordOf s)) target n e refl
 
   -- .. where it accepts
   pub saves-accepted : (n : ℕ) (left : List ℕ) → saving s target ≡ accepted n → left ≡ putIn target 0 (recordOf s) → Saves s target (saved.Accepted n) left
-  saves-accepted n left e l = writes-accepted target (saving s target) (λ n. putIn target 0 (recordOf s)) left n e l
+  saves-accepted n left e l = tells-accepted target (saving s target) (λ n. putIn target 0 (recordOf s)) left n e l
 
 -- the room of a reception and of a target
 pub room-to-save : (l : ℕ) (map buffer target : List ℕ) → (shortSpace l map buffer || ltb (length target) (recordLength l)) ≡ false
@@ -223,15 +235,18 @@ module _ (s map buffer : List ℕ) where
 
   -- .. where it accepts, by the two runs that it puts
   pub loads-accepted : isRecord s ≡ true → shortSpace (lengthIn s) map buffer ≡ false → (x : Recorded) → x ≡ recordedIn s
-      → (m b : List ℕ) → m ≡ mapIn s → b ≡ bytesIn s → (r q : Bool) (map′ buffer′ : List ℕ) → Put map 0 m r map′ → Put buffer 0 b q buffer′
-      → Loads s map buffer (Accepted x) map′ buffer′
-  loads-accepted formed room x is m b is-m is-b r q map′ buffer′ p t =
+      → (m b : List ℕ) → m ≡ partBy s mapAt (mapSize (x .length)) → b ≡ partBy s (bufferAt (x .length)) (x .length)
+      → (r q : Bool) (map′ buffer′ : List ℕ) → Put map 0 m r map′ → Put buffer 0 b q buffer′ → Loads s map buffer (Accepted x) map′ buffer′
+  loads-accepted formed room x is m b by-m by-b r q map′ buffer′ p t =
       let e = loads formed room in
       let f = is-formed s formed in
       let w = enough-space (lengthIn s) map buffer room in
       let j = f .long in
+      let l : x .length ≡ lengthIn s = ap (λ (y : Recorded). y .length) is in
+      let is-m : m ≡ mapIn s = by-m ∙ map-by-is s (x .length) l (omega (arith, j, l)) in
+      let is-b : b ≡ bufferIn s = by-b ∙ buffer-by-is s (x .length) l (omega (arith, j, l)) in
       let i : length m ≡ mapSize (lengthIn s) = ap length is-m ∙ map-in-long s (omega (arith, j)) in
-      let k : length b ≡ lengthIn s = ap length is-b ∙ bytes-in-long s (omega (arith, j)) in record {
+      let k : length b ≡ lengthIn s = ap length is-b ∙ buffer-in-long s (omega (arith, j)) in record {
         answers = ap accepted is ∙ sym e;
         leaves-map =
             put-fits map 0 m r map′ p (omega (arith, w, i)) .1

@@ -22,10 +22,10 @@ use Rattle.positions.specs.Map.{isSet, held, mapSize}
 use Rattle.positions.proofs.SpanLaws.{all-at}
 use Rattle.positions.proofs.MapLaws.{held-by, map-is, map-ext, map-bytes, held-map}
 use Rattle.reception.specs.Held.{heldOf}
-use Rattle.record.specs.Record.{savedMap, savedBytes, recordOf, mapAt, bytesAt, recordLength}
-use Rattle.record.specs.Reading.{numberIn, lengthIn, part, mapIn, bytesIn, fieldAt, spareClear, unheldClear}
-use Rattle.record.proofs.RecordLaws.{beforeMap, beforeBytes, saved-map-long, saved-bytes-long, record-is}
-use Rattle.record.proofs.GivenAnswers.{Formed, map-in-long, bytes-in-long}
+use Rattle.record.specs.Record.{savedMap, savedBuffer, recordOf, mapAt, bufferAt, recordLength}
+use Rattle.record.specs.Reading.{numberIn, lengthIn, part, mapIn, bufferIn, fieldAt, spareClear, unheldClear}
+use Rattle.record.proofs.RecordLaws.{beforeMap, beforeBuffer, saved-map-long, saved-buffer-long, record-is}
+use Rattle.record.proofs.GivenAnswers.{Formed, map-in-long, buffer-in-long}
 use Rattle.record.proofs.SavedLaws.{held-below, held-beyond, saved-byte-at}
 
 -- ---- a run at the front of a list
@@ -68,15 +68,15 @@ saved-map-same l m n e =
     ∙ ⊎-elim (λ w. held-beyond l m p w ∙ sym (held-beyond l n p w)) (λ w. held-below l m p w ∙ e p w ∙ sym (held-below l n p w)) (le-or-lt l p)
     ∙ sym (held-map (heldOf l n) (mapSize l) p g))
 
-pub saved-bytes-same : (l : ℕ) (m n b d : List ℕ) → ((p : ℕ) → p < l → held m p ≡ held n p) → ((p : ℕ) → p < l → byteAt b p ≡ byteAt d p)
-    → savedBytes l m b ≡ savedBytes l n d
-saved-bytes-same l m n b d e f =
+pub saved-buffer-same : (l : ℕ) (m n b d : List ℕ) → ((p : ℕ) → p < l → held m p ≡ held n p) → ((p : ℕ) → p < l → byteAt b p ≡ byteAt d p)
+    → savedBuffer l m b ≡ savedBuffer l n d
+saved-buffer-same l m n b d e f =
     values-same (λ p. cond (held m p) (byteAt b p) 0) (λ p. cond (held n p) (byteAt d p) 0) 0 l
     (λ p h. ap₂ (λ (w : Bool) (x : ℕ). cond w x 0) (e p (omega arith)) (f p (omega arith)))
 
 -- the record by its number, its length, its map and its bytes
 made : ℕ → ℕ → List ℕ → List ℕ → List ℕ
-made n l m b = beforeMap n l ++ m ++ beforeBytes l ++ b
+made n l m b = beforeMap n l ++ m ++ beforeBuffer l ++ b
 
 -- receptions of one file that hold the same positions, with the same bytes below its length, have one record
 pub record-same : (n l : ℕ) (m k b d : List ℕ) → ((p : ℕ) → p < l → held m p ≡ held k p) → ((p : ℕ) → p < l → byteAt b p ≡ byteAt d p)
@@ -84,7 +84,7 @@ pub record-same : (n l : ℕ) (m k b d : List ℕ) → ((p : ℕ) → p < l → 
 unfolding made
 record-same n l m k b d e f =
     sym (record-is (record { number = n; length = l; map = m; buffer = b }))
-    ∙ ap₂ (made n l) (saved-map-same l m k e) (saved-bytes-same l m k b d e f)
+    ∙ ap₂ (made n l) (saved-map-same l m k e) (saved-buffer-same l m k b d e f)
     ∙ record-is (record { number = n; length = l; map = k; buffer = d })
 
 -- ---- a map with clear spare bits and bytes that are zero where nothing is held are saved as they are
@@ -101,10 +101,10 @@ zero-if : (b : Bool) (x : ℕ) → (b || eqb x 0) ≡ true → cond b x 0 ≡ x
 zero-if true x e = refl
 zero-if false x e = sym (eqb-true x 0 e)
 
-pub bytes-as-is : (l : ℕ) (m b : List ℕ) → length b ≡ l → unheldClear l m b ≡ true → savedBytes l m b ≡ b
+pub bytes-as-is : (l : ℕ) (m b : List ℕ) → length b ≡ l → unheldClear l m b ≡ true → savedBuffer l m b ≡ b
 bytes-as-is l m b long e =
-    let k = saved-bytes-long l m b in
-    ext-getD 0 (savedBytes l m b) b (k ∙ sym long)
+    let k = saved-buffer-long l m b in
+    ext-getD 0 (savedBuffer l m b) b (k ∙ sym long)
     (λ p h.
     let g : p < l = omega (arith, h, k) in
     saved-byte-at l m b p g ∙ zero-if (held m p) (byteAt b p) (all-at (λ q. held m q || eqb (byteAt b q) 0) 0 l e p (omega arith) (omega arith)))
@@ -185,7 +185,7 @@ module _ (s : List ℕ) (a : AllBytes s) (f : Formed s) where
       let h = long in
       ap₂ _++_ to-length (field-bytes s 14 3 size a (omega (arith, h)) (and-right (one && two) three three-fields)) ∙ join s (take 14 s) 14 3 refl
 
-  to-bytes : beforeMap (numberIn s) l ++ mapIn s ++ beforeBytes l ≡ take (bytesAt l) s
+  to-bytes : beforeMap (numberIn s) l ++ mapIn s ++ beforeBuffer l ≡ take (bufferAt l) s
   to-bytes =
       let h = long in
       ap₂ _++_
@@ -194,13 +194,13 @@ module _ (s : List ℕ) (a : AllBytes s) (f : Formed s) where
       ∙ join s (take (mapAt + size) s) (mapAt + size) 3 refl
 
   -- put together from what it says, a record is itself
-  pub record-of-parts : recordOf (record { number = numberIn s; length = lengthIn s; map = mapIn s; buffer = bytesIn s }) ≡ s
+  pub record-of-parts : recordOf (record { number = numberIn s; length = lengthIn s; map = mapIn s; buffer = bufferIn s }) ≡ s
   unfolding made
   record-of-parts =
       let h = long in
       let j = f .long in
-      sym (record-is (record { number = numberIn s; length = lengthIn s; map = mapIn s; buffer = bytesIn s }))
+      sym (record-is (record { number = numberIn s; length = lengthIn s; map = mapIn s; buffer = bufferIn s }))
       ∙ ap₂ (made (numberIn s) l) (map-as-is l (mapIn s) (part-bytes s mapAt size a) (map-in-long s h) (f .spare))
-      (bytes-as-is l (mapIn s) (bytesIn s) (bytes-in-long s h) (f .unheld))
-      ∙ join s (beforeMap (numberIn s) l ++ mapIn s ++ beforeBytes l) (bytesAt l) l to-bytes
+      (bytes-as-is l (mapIn s) (bufferIn s) (buffer-in-long s h) (f .unheld))
+      ∙ join s (beforeMap (numberIn s) l ++ mapIn s ++ beforeBuffer l) (bufferAt l) l to-bytes
       ∙ take-all (recordLength l) s (omega (arith, j))

@@ -5,6 +5,7 @@ use mathlib.Core.Bool.{Bool, true, false, cond, _&&_}
 use mathlib.Core.Logic.{⊎-elim}
 use mathlib.Core.List.{List, [], _∷_}
 use Prim.Native.Nat.{ℕ, _+_, _-_, _*_, _/_, _%_, _^_, _≤_, _<_}
+use mir.Val.{boolByte}
 use native.Mathlib.Nat.{zero-add, mod-le, mod-lt, mod-eq-of-lt, lt-of-lt-of-le}
 use native.Mathlib.Numerals.{unary-clauses}
 use native.Mathlib.Omega.{arith}
@@ -19,14 +20,13 @@ use Rattle.octets.specs.Numbers.{byteAt, AllBytes}
 use Rattle.octets.specs.Values.{valuesFrom}
 use Rattle.octets.specs.Runs.{putIn, Put}
 use Rattle.octets.proofs.ValueLaws.{value-at, values-long, values-alike}
-use Rattle.octets.proofs.RunLaws.{put-fits, put-length, put-one, put-values}
+use Rattle.octets.proofs.RunLaws.{put-fits, put-length, put-nothing, put-one, put-values}
 use Rattle.positions.specs.Map.{bit, isSet, held, bitsFrom}
-use Rattle.positions.proofs.BitLaws.{bit-lt, bits-ext, and-one, bits-below, bit-from, set-low, set-high}
+use Rattle.positions.proofs.BitLaws.{bit-lt, bits-ext, bits-below, bit-from, set-low, set-high}
 use Rattle.positions.proofs.MapLaws.{held-in, full-set}
 use Rattle.reception.specs.Held.{heldOf}
-use Rattle.reception.proofs.JoinSteps.{bit-of}
+use Rattle.positions.proofs.MapLaws.{bit-of}
 use Rattle.record.specs.Inner.{byteSaved}
-use Rattle.record.proofs.ReadSteps.{bit-test}
 
 -- ---- written into a list
 -- writing values leaves the list as long as it was
@@ -48,6 +48,19 @@ put-value f out at i n so-far is v h e =
     ∙ ap₂ (λ (l : List ℕ) (x : ℕ). putIn l (at + n) (x ∷ [])) is e
     ∙ put-values f out at i n 1 (omega arith)
 
+-- .. as a loop meets it: n values are written, and the list is as long as it was
+abbrev pub SoFar : (ℕ → ℕ) → List ℕ → ℕ → ℕ → ℕ → List ℕ → Type 0
+SoFar f out at i n so-far = (so-far ≡ putIn out at (valuesFrom f i n)) × (length so-far ≡ length out)
+
+pub so-far-none : (f : ℕ → ℕ) (out : List ℕ) (at i : ℕ) → SoFar f out at i 0 out
+so-far-none f out at i = (sym (put-nothing out at), refl)
+
+pub so-far-more : (f : ℕ → ℕ) (out : List ℕ) (at i n : ℕ) (so-far : List ℕ) → SoFar f out at i n so-far
+    → (v : ℕ) → at + n < length out → v ≡ f (i + n) → SoFar f out at i (n + 1) (set so-far (at + n) v)
+so-far-more f out at i n so-far is v h e =
+    let all = put-value f out at i n so-far (is .0) v h e in
+    (all, same-long f out at i (n + 1) (set so-far (at + n) v) (omega arith) all)
+
 -- eight values, made one by one
 pub eight-values : (f : ℕ → ℕ) (i a b c d e g h k : ℕ) → a ≡ f i → b ≡ f (i + 1) → c ≡ f (i + 2) → d ≡ f (i + 3) → e ≡ f (i + 4) → g ≡ f (i + 5)
     → h ≡ f (i + 6) → k ≡ f (i + 7) → (a ∷ b ∷ c ∷ d ∷ e ∷ g ∷ h ∷ k ∷ []) ≡ valuesFrom f i 8
@@ -56,7 +69,7 @@ eight-values f i a b c d e g h k r0 r1 r2 r3 r4 r5 r6 r7 = rw (r0, r1, r2, r3, r
 -- the values of positions from 0 on, as a loop meets them: those below p are written
 module _ (f : ℕ → ℕ) (out : List ℕ) (at p : ℕ) (so-far : List ℕ) (is : so-far ≡ putIn out at (valuesFrom f 0 p)) where
   -- n are next
-  pub put-run-more : (n : ℕ) (after : List ℕ) → at + p + n ≤ length out → after ≡ putIn so-far (at + p) (valuesFrom f p n)
+  put-run-more : (n : ℕ) (after : List ℕ) → at + p + n ≤ length out → after ≡ putIn so-far (at + p) (valuesFrom f p n)
       → after ≡ putIn out at (valuesFrom f 0 (p + n))
   put-run-more n after h next =
       next
@@ -109,25 +122,32 @@ whole-bytes l m n b h g =
 
 -- ---- the bytes of a file, unheld ones as zero
 -- .. of the first n positions of a map byte, by their bits
-pub saved-byte : (m b : List ℕ) (from n : ℕ) → from % 8 ≡ 0 → n ≤ 8
+saved-byte : (m b : List ℕ) (from n : ℕ) → from % 8 ≡ 0 → n ≤ 8
     → valuesFrom (byteSaved (byteAt m (from / 8)) b from) from n ≡ valuesFrom (λ p. cond (held m p) (byteAt b p) 0) from n
 saved-byte m b from n a few =
     values-alike (byteSaved (byteAt m (from / 8)) b from) (λ p. cond (held m p) (byteAt b p) 0) from n
     (λ q l g. ap (λ (w : Bool). cond w (byteAt b q) 0) (bit-of m from q a l (omega arith)))
 
--- one byte, masked by its bit
-masked : (x v : ℕ) → x < 256 → v < 2 → bitAnd x (255 * v) ≡ cond (eqb v 1) x 0
-masked x v h g = by (eqb v 1) refl
-  where
-    by : (b : Bool) → eqb v 1 ≡ b → bitAnd x (255 * v) ≡ cond b x 0
-    by true e = let w = eqb-true v 1 e in let n : 255 * v ≡ 255 = omega (arith, w) in ap (bitAnd x) n ∙ and-mask x 8 ∙ mod-eq-of-lt h
-    by false e = let w = eqb-false v 1 e in let n : 255 * v ≡ 0 = omega (arith, w) in ap (bitAnd x) n ∙ and-zero-r x
+-- .. behind those of the positions before it
+pub saved-run-more : (m b out : List ℕ) (at p : ℕ) (so-far : List ℕ) → so-far ≡ putIn out at (valuesFrom (λ q. cond (held m q) (byteAt b q) 0) 0 p)
+    → p % 8 ≡ 0 → (n : ℕ) → n ≤ 8 → at + p + n ≤ length out
+    → (after : List ℕ) → after ≡ putIn so-far (at + p) (valuesFrom (byteSaved (byteAt m (p / 8)) b p) p n)
+    → after ≡ putIn out at (valuesFrom (λ q. cond (held m q) (byteAt b q) 0) 0 (p + n))
+saved-run-more m b out at p so-far is a n few h after next =
+    put-run-more (λ q. cond (held m q) (byteAt b q) 0) out at p so-far is n after h (next ∙ ap (putIn so-far (at + p)) (saved-byte m b p n a few))
 
-pub byte-masked : (b : ℕ) (d : List ℕ) (from p : ℕ) → byteAt d p < 256
-    → bitAnd (byteAt d p) (255 * bitAnd (b / 2 ^ (p - from)) 1) ≡ byteSaved b d from p
-byte-masked b d from p h =
-    let e = and-one (b / 2 ^ (p - from)) in
-    masked (byteAt d p) (bitAnd (b / 2 ^ (p - from)) 1) h (omega (arith, e)) ∙ ap (λ (w : Bool). cond w (byteAt d p) 0) (bit-test b (p - from))
+-- one byte, masked by its bit
+pub mask-most : (w : Bool) → 255 * boolByte w < 256
+mask-most true = omega arith
+mask-most false = omega arith
+
+masked : (x : ℕ) (w : Bool) → x < 256 → bitAnd x (255 * boolByte w) ≡ cond w x 0
+masked x true h = and-mask x 8 ∙ mod-eq-of-lt h
+masked x false h = and-zero-r x
+
+pub byte-masked : (b : ℕ) (d : List ℕ) (from p : ℕ) → byteAt d p < 256 → (w : Bool) → w ≡ isSet b (p - from)
+    → bitAnd (byteAt d p) (255 * boolByte w) ≡ byteSaved b d from p
+byte-masked b d from p h w e = masked (byteAt d p) w h ∙ ap (λ (v : Bool). cond v (byteAt d p) 0) e
 
 -- those of a full byte are the bytes as they are
 pub full-saved : (b : ℕ) (d : List ℕ) (from : ℕ) → b ≡ 255 → valuesFrom (byteAt d) from 8 ≡ valuesFrom (byteSaved b d from) from 8

@@ -1,12 +1,11 @@
 -- Steps of reading a record: its parts, its spare bits, and its unheld bytes, a map byte at a time.
 -- Assumes nothing.
-use mathlib.Core.Path.{_≡_, refl, sym, ap, _∙_}
+use mathlib.Core.Path.{_≡_, refl, sym, ap, ap₂, _∙_}
 use mathlib.Core.Bool.{Bool, true, false, cond, not, _&&_, _||_, true≢false}
 use mathlib.Core.Logic.{⊎-elim}
 use mathlib.Core.List.{List, []}
 use Prim.Native.Nat.{ℕ, zero, _+_, _-_, _*_, _/_, _%_, _^_, _≤_, _<_}
 use native.Mathlib.Omega.{arith}
-use lib.Bits.{bitAnd}
 use lib.Dec.{eqb, leb}
 use lib.ListN.{length, take, drop}
 use borrow.Author.Tests.{eq-eqb, ne-eqb, eqb-false, le-leb, lt-leb, not-true}
@@ -14,14 +13,14 @@ use Rattle.reason.proofs.Bools.{le-or-lt}
 use Rattle.octets.specs.Numbers.{byteAt}
 use Rattle.positions.specs.Spans.{every}
 use Rattle.positions.specs.Map.{bit, isSet, held, mapSize}
-use Rattle.positions.proofs.BitLaws.{bit-lt, bits-ext, and-one, set-shr, set-none, set-high}
-use Rattle.positions.proofs.SpanLaws.{all-if, all-at, every-same, part-fails, no-between}
+use Rattle.positions.proofs.BitLaws.{bit-lt, bits-ext, set-shr, set-none, set-high}
+use Rattle.positions.proofs.SpanLaws.{all-if, all-at, every-more, every-same, part-fails, no-between}
 use Rattle.positions.proofs.MapLaws.{held-by, full-set}
-use Rattle.reception.proofs.JoinSteps.{bit-of}
+use Rattle.positions.proofs.MapLaws.{bit-of}
 use Rattle.record.specs.declared.Recorded.{Recorded}
-use Rattle.record.specs.Record.{mapAt, bytesAt, recordLength}
-use Rattle.record.specs.Reading.{numberIn, lengthIn, part, mapIn, bytesIn, spareClear, unheldClear, recordedIn}
-use Rattle.record.specs.Inner.{clearAt}
+use Rattle.record.specs.Record.{mapAt, bufferAt, recordLength}
+use Rattle.record.specs.Reading.{numberIn, lengthIn, part, mapIn, bufferIn, spareClear, unheldClear, recordedIn}
+use Rattle.record.specs.Inner.{partBy, clearAt}
 
 -- what a record says, from its two numbers
 pub said : (s : List ℕ) (n l : ℕ) → n ≡ numberIn s → l ≡ lengthIn s → _≡_ {A = Recorded} (record { number = n; length = l }) (recordedIn s)
@@ -32,29 +31,25 @@ pub four : (a a′ b b′ c c′ d d′ : Bool) → a ≡ a′ → b ≡ b′ �
 four a a′ b b′ c c′ d d′ e f g h = rw (e, f, g, h)
 
 -- ---- the parts of a record
--- the part between two places
-pub part-by : (s : List ℕ) (at n end : ℕ) → end ≡ at + n → take (end - at) (drop at s) ≡ part s at n
-part-by s at n end e = let k : end - at ≡ n = omega arith in ap (λ (m : ℕ). take m (drop at s)) k
+-- a part, where it fits and where it does not
+pub part-fits : (s : List ℕ) (at n : ℕ) → at + n ≤ length s → take (at + n - at) (drop at s) ≡ partBy s at n
+part-fits s at n h =
+    let k : at + n - at ≡ n = omega arith in
+    ap (λ (m : ℕ). take m (drop at s)) k ∙ ap (λ (b : Bool). cond b (part s at n) []) (sym (le-leb (at + n) (length s) h))
 
--- the map of a file of a length, where it fits and where it does not
-pub map-fits : (s : List ℕ) (l size : ℕ) → size ≡ mapSize l → mapAt + size ≤ length s
-    → take (mapAt + size - mapAt) (drop mapAt s) ≡ cond (leb (mapAt + mapSize l) (length s)) (part s mapAt (mapSize l)) []
-map-fits s l size e h =
-    part-by s mapAt (mapSize l) (mapAt + size) (ap (λ (n : ℕ). mapAt + n) e)
-    ∙ ap (λ (b : Bool). cond b (part s mapAt (mapSize l)) []) (sym (le-leb (mapAt + mapSize l) (length s) (omega arith)))
+pub part-short : (s : List ℕ) (at n : ℕ) → length s < at + n → [] ≡ partBy s at n
+part-short s at n h = ap (λ (b : Bool). cond b (part s at n) []) (sym (lt-leb (at + n) (length s) h))
 
-pub map-short : (s : List ℕ) (l size : ℕ) → size ≡ mapSize l → length s < mapAt + size
-    → [] ≡ cond (leb (mapAt + mapSize l) (length s)) (part s mapAt (mapSize l)) []
-map-short s l size e h = ap (λ (b : Bool). cond b (part s mapAt (mapSize l)) []) (sym (lt-leb (mapAt + mapSize l) (length s) (omega arith)))
+-- the map and the bytes by the length that a record says, where it is long enough
+module _ (s : List ℕ) (l : ℕ) (is : l ≡ lengthIn s) (long : recordLength l ≤ length s) where
+  part-is : (at n : ℕ) → at + n ≤ recordLength l → partBy s at n ≡ part s at n
+  part-is at n h = ap (λ (b : Bool). cond b (part s at n) []) (le-leb (at + n) (length s) (omega (arith, h, long)))
 
--- the map and the bytes, by the length that the record says
-pub map-by-length : (s : List ℕ) (l size : ℕ) → l ≡ lengthIn s → size ≡ mapSize l → take (mapAt + size - mapAt) (drop mapAt s) ≡ mapIn s
-map-by-length s l size is e = part-by s mapAt (mapSize (lengthIn s)) (mapAt + size) (ap (λ (n : ℕ). mapAt + n) (e ∙ ap mapSize is))
+  pub map-by-is : partBy s mapAt (mapSize l) ≡ mapIn s
+  map-by-is = part-is mapAt (mapSize l) (omega arith) ∙ ap (λ (k : ℕ). part s mapAt (mapSize k)) is
 
-pub bytes-by-length : (s : List ℕ) (l from end : ℕ) → l ≡ lengthIn s → from ≡ bytesAt l → end ≡ recordLength l → take (end - from) (drop from s) ≡ bytesIn s
-bytes-by-length s l from end is f e =
-    ap (λ (i : ℕ). take (end - i) (drop i s)) (f ∙ ap bytesAt is)
-    ∙ part-by s (bytesAt (lengthIn s)) (lengthIn s) end (e ∙ ap recordLength is)
+  pub buffer-by-is : partBy s (bufferAt l) l ≡ bufferIn s
+  buffer-by-is = part-is (bufferAt l) l (omega arith) ∙ ap (λ (k : ℕ). part s (bufferAt k) k) is
 
 -- ---- the spare bits
 -- a test that a number is zero
@@ -113,18 +108,14 @@ module _ (l : ℕ) (m : List ℕ) (some : l % 8 ≡ 0 → ⊥) where
   spare-by-shift h g = zero-test (last / 2 ^ (l % 8)) (spareClear l m) clear-if (clear-only h g)
 
 -- ---- the unheld bytes
--- one bit, shifted down and masked
-pub bit-test : (b k : ℕ) → eqb (bitAnd (b / 2 ^ k) 1) 1 ≡ isSet b k
-unfolding bit
-bit-test b k = ap (λ (x : ℕ). eqb x 1) (and-one (b / 2 ^ k))
-
--- a position by its bit and its byte
-pub clear-by : (b : ℕ) (d : List ℕ) (from p : ℕ) → (eqb (bitAnd (b / 2 ^ (p - from)) 1) 1 || eqb (byteAt d p) 0) ≡ clearAt b d from p
-clear-by b d from p = ap (λ (w : Bool). w || eqb (byteAt d p) 0) (bit-test b (p - from))
-
 -- of a full byte every position is held
 pub full-clear : (b : ℕ) (d : List ℕ) (from p : ℕ) → b ≡ 255 → p < from + 8 → clearAt b d from p ≡ true
 full-clear b d from p e h = ap (λ (w : Bool). w || eqb (byteAt d p) 0) (full-set b (p - from) e (omega arith))
+
+-- as a loop meets them: whether those so far are clear, and one more
+pub clear-more : (b : ℕ) (d : List ℕ) (from k : ℕ) (so-far here : Bool) → so-far ≡ every (clearAt b d from) from k → here ≡ clearAt b d from (from + k)
+    → (so-far && here) ≡ every (clearAt b d from) from (k + 1)
+clear-more b d from k so-far here e f = ap₂ _&&_ e f ∙ every-more (clearAt b d from) from k
 
 -- a byte of a map, for the first n of its positions
 module _ (m d : List ℕ) (from n : ℕ) (a : from % 8 ≡ 0) (few : n ≤ 8) where

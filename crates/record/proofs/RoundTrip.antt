@@ -22,14 +22,14 @@ use Rattle.reception.specs.Contents.{HoldsOf, itself, beyond}
 use Rattle.reception.proofs.OfferLaws.{enough-space, right-length}
 use Rattle.reception.proofs.Holding.{same-reception, space-enough}
 use Rattle.record.specs.declared.Recorded.{Recorded}
-use Rattle.record.specs.Record.{savedMap, savedBytes, recordOf, recordLength}
-use Rattle.record.specs.Reading.{numberIn, lengthIn, mapIn, bytesIn, isRecord, recordedIn, readRecord}
+use Rattle.record.specs.Record.{savedMap, savedBuffer, recordOf, recordLength}
+use Rattle.record.specs.Reading.{numberIn, lengthIn, mapIn, bufferIn, isRecord, recordedIn, readRecord}
 use Rattle.record.specs.Saving.{savingChecks, saving}
 use Rattle.record.specs.Loading.{loadingChecks, loading, loadedMap, loadedBuffer, loaded}
 use Rattle.record.specs.GivenBack.{GivesBack}
-use Rattle.record.proofs.RecordLaws.{saved-map-long, saved-bytes-long, record-long}
-use Rattle.record.proofs.GivenAnswers.{Formed, is-formed, map-in-long, bytes-in-long, reads, saves, loads, room-to-save}
-use Rattle.record.proofs.SavedLaws.{saved-held, held-below, held-beyond, saved-byte-at, saved-number, saved-length, saved-map-in, saved-bytes-in, saved-formed}
+use Rattle.record.proofs.RecordLaws.{saved-map-long, saved-buffer-long, record-long}
+use Rattle.record.proofs.GivenAnswers.{Formed, is-formed, map-in-long, buffer-in-long, reads, saves, loads, room-to-save}
+use Rattle.record.proofs.SavedLaws.{saved-held, held-below, held-beyond, saved-byte-at, saved-number, saved-length, saved-map-in, saved-buffer-in, saved-formed}
 use Rattle.record.proofs.LoadedLaws.{front-byte, front-held, front-bytes, front-behind, record-same, record-of-parts}
 
 -- ---- saved, and read
@@ -44,12 +44,12 @@ module _ (s : Reception) (right : wrongLength (s .length) ≡ false) (four : s .
   pub saved-is-record : (isRecord (recordOf s) ≡ true)
       × (readRecord (recordOf s) ≡ accepted (record { number = s .number; length = s .length }))
       × (mapIn (recordOf s) ≡ savedMap (s .length) (s .map))
-      × (bytesIn (recordOf s) ≡ savedBytes (s .length) (s .map) (s .buffer))
+      × (bufferIn (recordOf s) ≡ savedBuffer (s .length) (s .map) (s .buffer))
   saved-is-record = (
     saved-formed s right,
     reads (recordOf s) (saved-formed s right) ∙ ap accepted says-of,
     saved-map-in s right,
-    saved-bytes-in s right,
+    saved-buffer-in s right,
   )
 
   -- ---- .. and loaded
@@ -61,20 +61,20 @@ module _ (s : Reception) (right : wrongLength (s .length) ≡ false) (four : s .
     m = savedMap l (s .map)
 
     abbrev b : List ℕ
-    b = savedBytes l (s .map) (s .buffer)
+    b = savedBuffer l (s .map) (s .buffer)
 
     -- the lent map and buffer with the saved map and bytes
     map-is : loadedMap (recordOf s) map ≡ putIn map 0 m
     map-is = ap (putIn map 0) (saved-map-in s right)
 
     buffer-is : loadedBuffer (recordOf s) buffer ≡ putIn buffer 0 b
-    buffer-is = ap (putIn buffer 0) (saved-bytes-in s right)
+    buffer-is = ap (putIn buffer 0) (saved-buffer-in s right)
 
     map-room : length m ≤ length map
     map-room = let w = enough-space l map buffer room in let e = saved-map-long l (s .map) in omega (arith, w, e)
 
     buffer-room : length b ≤ length buffer
-    buffer-room = let w = enough-space l map buffer room in let e = saved-bytes-long l (s .map) (s .buffer) in omega (arith, w, e)
+    buffer-room = let w = enough-space l map buffer room in let e = saved-buffer-long l (s .map) (s .buffer) in omega (arith, w, e)
 
     loads-it : loading (recordOf s) map buffer ≡ accepted (record { number = s .number; length = s .length })
     loads-it =
@@ -83,7 +83,7 @@ module _ (s : Reception) (right : wrongLength (s .length) ≡ false) (four : s .
     gives-back : GivesBack s (loaded (recordOf s) map buffer)
     gives-back =
         let e = saved-map-long l (s .map) in
-        let f = saved-bytes-long l (s .map) (s .buffer) in record {
+        let f = saved-buffer-long l (s .map) (s .buffer) in record {
           numbered = saved-number s right four;
           sized = saved-length s right;
           holds = λ p h. ap (λ (x : List ℕ). held x p) map-is ∙ front-held map m map-room p (omega (arith, e, h)) ∙ saved-held l (s .map) p h;
@@ -169,7 +169,7 @@ module _ (number l : ℕ) (file : List ℕ) (set : ℕ → Bool) (s : Reception)
   buffer-long : length (t .buffer) ≡ length buffer
   buffer-long =
       let k = buffer-room s right-s four-s map buffer room-s in
-      ap length (buffer-is s right-s four-s map buffer room-s) ∙ put-length buffer 0 (savedBytes (s .length) (s .map) (s .buffer)) (omega (arith, k))
+      ap length (buffer-is s right-s four-s map buffer room-s) ∙ put-length buffer 0 (savedBuffer (s .length) (s .map) (s .buffer)) (omega (arith, k))
 
   map-all : AllBytes (t .map)
   map-all i =
@@ -216,8 +216,8 @@ module _ (number l : ℕ) (file : List ℕ) (set : ℕ → Bool) (s : Reception)
   buffer-behind : drop (t .length) (t .buffer) ≡ drop l buffer
   buffer-behind =
       ap₂ (λ (n : ℕ) (x : List ℕ). drop n x) (holding-is-given-back .sized) (buffer-is s right-s four-s map buffer room-s)
-      ∙ front-behind buffer (savedBytes (s .length) (s .map) (s .buffer)) (buffer-room s right-s four-s map buffer room-s) l
-      (saved-bytes-long (s .length) (s .map) (s .buffer) ∙ h .sized)
+      ∙ front-behind buffer (savedBuffer (s .length) (s .map) (s .buffer)) (buffer-room s right-s four-s map buffer room-s) l
+      (saved-buffer-long (s .length) (s .map) (s .buffer) ∙ h .sized)
 
   pub loaded-beyond : beyond (loaded (recordOf s) map buffer) ≡ record { map = drop (mapSize l) map; buffer = drop l buffer }
   loaded-beyond = ap₂ (λ (m b : List ℕ). record { map = m; buffer = b }) map-behind buffer-behind
@@ -225,15 +225,15 @@ module _ (number l : ℕ) (file : List ℕ) (set : ℕ → Bool) (s : Reception)
 -- ---- read, and saved
 -- A list of bytes that is accepted is the record of what it says: nothing else is accepted than what the writer writes.
 pub accepted-is-saved : (r : List ℕ) → AllBytes r → isRecord r ≡ true
-    → recordOf (record { number = numberIn r; length = lengthIn r; map = mapIn r; buffer = bytesIn r }) ≡ r
+    → recordOf (record { number = numberIn r; length = lengthIn r; map = mapIn r; buffer = bufferIn r }) ≡ r
 accepted-is-saved r all e = record-of-parts r all (is-formed r e)
 
 -- Two accepted records that say the same number, length, map and bytes are the same record.
 pub one-record : (r q : List ℕ) → AllBytes r → AllBytes q → isRecord r ≡ true → isRecord q ≡ true → numberIn r ≡ numberIn q → lengthIn r ≡ lengthIn q
-    → mapIn r ≡ mapIn q → bytesIn r ≡ bytesIn q → r ≡ q
+    → mapIn r ≡ mapIn q → bufferIn r ≡ bufferIn q → r ≡ q
 one-record r q a b d e n l m y =
     sym (accepted-is-saved r a d)
-    ∙ same (numberIn r) (numberIn q) (lengthIn r) (lengthIn q) (mapIn r) (mapIn q) (bytesIn r) (bytesIn q) n l m y
+    ∙ same (numberIn r) (numberIn q) (lengthIn r) (lengthIn q) (mapIn r) (mapIn q) (bufferIn r) (bufferIn q) n l m y
     ∙ accepted-is-saved q b e
   where
     same : (n n′ l l′ : ℕ) (m m′ b b′ : List ℕ) → n ≡ n′ → l ≡ l′ → m ≡ m′ → b ≡ b′
@@ -252,8 +252,8 @@ module _ (r map buffer : List ℕ) (all : AllBytes r) (x : Recorded) (e : loadin
   in-map : length (mapIn r) ≡ mapSize (lengthIn r)
   in-map = let j = formed .long in map-in-long r (omega (arith, j))
 
-  in-bytes : length (bytesIn r) ≡ lengthIn r
-  in-bytes = let j = formed .long in bytes-in-long r (omega (arith, j))
+  in-buffer : length (bufferIn r) ≡ lengthIn r
+  in-buffer = let j = formed .long in buffer-in-long r (omega (arith, j))
 
   enough : (mapSize (lengthIn r) ≤ length map) × (lengthIn r ≤ length buffer)
   enough = enough-space (lengthIn r) map buffer (loading-says .1)
@@ -261,27 +261,27 @@ module _ (r map buffer : List ℕ) (all : AllBytes r) (x : Recorded) (e : loadin
   in-map-room : length (mapIn r) ≤ length map
   in-map-room = let w = enough in let i = in-map in omega (arith, w, i)
 
-  in-bytes-room : length (bytesIn r) ≤ length buffer
-  in-bytes-room = let w = enough in let i = in-bytes in omega (arith, w, i)
+  in-buffer-room : length (bufferIn r) ≤ length buffer
+  in-buffer-room = let w = enough in let i = in-buffer in omega (arith, w, i)
 
   -- A loaded reception, saved again, is the record that was loaded, byte for byte.
   pub save-after-load : recordOf (loaded r map buffer) ≡ r
   save-after-load =
       let i = in-map in
-      let k = in-bytes in
-      record-same (numberIn r) (lengthIn r) (loadedMap r map) (mapIn r) (loadedBuffer r buffer) (bytesIn r)
+      let k = in-buffer in
+      record-same (numberIn r) (lengthIn r) (loadedMap r map) (mapIn r) (loadedBuffer r buffer) (bufferIn r)
       (λ p h. front-held map (mapIn r) in-map-room p (omega (arith, i, h)))
-      (λ p h. front-byte buffer (bytesIn r) in-bytes-room p (omega (arith, k, h)))
+      (λ p h. front-byte buffer (bufferIn r) in-buffer-room p (omega (arith, k, h)))
       ∙ accepted-is-saved r all (loading-says .0)
 
   -- .. and a target that is long enough takes it: the answer is the record's size.
   pub saves-after-load : (target : List ℕ) → recordLength (lengthIn r) ≤ length target → saving (loaded r map buffer) target ≡ accepted (length r)
   saves-after-load target h =
       let i = in-map-room in
-      let k = in-bytes-room in
+      let k = in-buffer-room in
       let w = enough in
       let m : length (loadedMap r map) ≡ length map = put-length map 0 (mapIn r) (omega (arith, i)) in
-      let b : length (loadedBuffer r buffer) ≡ length buffer = put-length buffer 0 (bytesIn r) (omega (arith, k)) in
+      let b : length (loadedBuffer r buffer) ≡ length buffer = put-length buffer 0 (bufferIn r) (omega (arith, k)) in
       saves (loaded r map buffer) target (formed .right)
       (none (le-ltb (length (loadedMap r map)) (mapSize (lengthIn r)) (omega (arith, w, m)))
       (le-ltb (length (loadedBuffer r buffer)) (lengthIn r) (omega (arith, w, b)))

@@ -19,10 +19,10 @@ use Rattle.positions.proofs.SpanLaws.{all-if}
 use Rattle.positions.proofs.MapLaws.{held-map}
 use Rattle.reception.specs.Reception.{Reception, longest, wrongLength}
 use Rattle.reception.specs.Held.{heldOf}
-use Rattle.record.specs.Record.{savedMap, savedBytes, recordOf, mapAt, bytesAt, recordLength}
-use Rattle.record.specs.Reading.{numberIn, lengthIn, mapIn, bytesIn, fieldAt, fieldsRight, spareClear, unheldClear, isRecord}
+use Rattle.record.specs.Record.{savedMap, savedBuffer, recordOf, mapAt, bufferAt, recordLength}
+use Rattle.record.specs.Reading.{numberIn, lengthIn, mapIn, bufferIn, fieldAt, fieldsRight, spareClear, unheldClear, isRecord}
 use Rattle.reception.proofs.OfferLaws.{right-length}
-use Rattle.record.proofs.RecordLaws.{beforeBytes, saved-map-long, saved-bytes-long, upToMap, pastMap, upToBytes, past-map-long, up-to-bytes-long, record-is, record-long}
+use Rattle.record.proofs.RecordLaws.{beforeBuffer, saved-map-long, saved-buffer-long, upToMap, pastMap, upToBuffer, past-map-long, up-to-buffer-long, record-is, record-long}
 use Rattle.record.proofs.GivenAnswers.{formed-is}
 
 -- ---- the saved map and the saved bytes, position by position
@@ -39,7 +39,7 @@ module _ (l : ℕ) (map : List ℕ) where
   held-beyond p h = ap (λ (b : Bool). b && held map p) (le-ltb p l h)
 
   -- a saved byte
-  pub saved-byte-at : (buffer : List ℕ) (p : ℕ) → p < l → byteAt (savedBytes l map buffer) p ≡ cond (held map p) (byteAt buffer p) 0
+  pub saved-byte-at : (buffer : List ℕ) (p : ℕ) → p < l → byteAt (savedBuffer l map buffer) p ≡ cond (held map p) (byteAt buffer p) 0
   saved-byte-at buffer p h = value-at (λ q. cond (held map q) (byteAt buffer q) 0) 0 l p h
 
   -- its spare bits and its unheld bytes are zero
@@ -51,9 +51,9 @@ module _ (l : ℕ) (map : List ℕ) where
   zero-or-held true x = refl
   zero-or-held false x = refl
 
-  pub saved-unheld : (buffer : List ℕ) → unheldClear l (savedMap l map) (savedBytes l map buffer) ≡ true
+  pub saved-unheld : (buffer : List ℕ) → unheldClear l (savedMap l map) (savedBuffer l map buffer) ≡ true
   saved-unheld buffer =
-      all-if (λ p. held (savedMap l map) p || eqb (byteAt (savedBytes l map buffer) p) 0) 0 l
+      all-if (λ p. held (savedMap l map) p || eqb (byteAt (savedBuffer l map buffer) p) 0) 0 l
       (λ p a b.
       ap₂ (λ (h : Bool) (x : ℕ). h || eqb x 0) (saved-held p (omega arith) ∙ held-below p (omega arith)) (saved-byte-at buffer p (omega arith))
       ∙ zero-or-held (held map p) (byteAt buffer p))
@@ -78,7 +78,7 @@ module _ (s : Reception) (right : wrongLength (s .length) ≡ false) where
   M = savedMap l (s .map)
 
   abbrev B : List ℕ
-  B = savedBytes l (s .map) (s .buffer)
+  B = savedBuffer l (s .map) (s .buffer)
 
   most : l ≤ longest
   most = right-length l right .1
@@ -101,16 +101,16 @@ module _ (s : Reception) (right : wrongLength (s .length) ≡ false) where
       field-is (recordOf s) 14 3 (mapSize l) refl (number-of-bytes 2 (length M) (small-two (length M) (omega (arith, n, m))) ∙ n)
 
   -- the front of a record past its map, and what is behind it
-  split : recordOf s ≡ pastMap s ++ (beforeBytes l ++ B)
-  split = sym (record-is s) ∙ append-assoc (pastMap s) (beforeBytes l) B
+  split : recordOf s ≡ pastMap s ++ (beforeBuffer l ++ B)
+  split = sym (record-is s) ∙ append-assoc (pastMap s) (beforeBuffer l) B
 
   fourth : fieldAt (recordOf s) (mapAt + mapSize l) 4 l ≡ true
   fourth =
       field-is (recordOf s) (mapAt + mapSize l) 4 l
       (ap₂ byteAt split (sym (add-zero (mapAt + mapSize l)) ∙ ap (λ (n : ℕ). n + 0) (sym (past-map-long s)))
-      ∙ getD-append-add (pastMap s) (beforeBytes l ++ B) 0 0)
+      ∙ getD-append-add (pastMap s) (beforeBuffer l ++ B) 0 0)
       (ap₂ (numberAt 2) split (ap (λ (n : ℕ). n + 1) (sym (past-map-long s)))
-      ∙ number-behind 2 (pastMap s) (beforeBytes l ++ B) 1
+      ∙ number-behind 2 (pastMap s) (beforeBuffer l ++ B) 1
       ∙ number-of-bytes 2 l (small-two l most))
 
   saved-fields : fieldsRight l (recordOf s) ≡ true
@@ -120,14 +120,14 @@ module _ (s : Reception) (right : wrongLength (s .length) ≡ false) where
   -- its map and its bytes
   pub saved-map-in : mapIn (recordOf s) ≡ savedMap (s .length) (s .map)
   saved-map-in =
-      ap₂ (λ (n : ℕ) (r : List ℕ). take (mapSize n) (drop mapAt r)) saved-length (split ∙ append-assoc (upToMap s) M (beforeBytes l ++ B))
-      ∙ take-at M (beforeBytes l ++ B) (mapSize l) (saved-map-long l (s .map))
+      ap₂ (λ (n : ℕ) (r : List ℕ). take (mapSize n) (drop mapAt r)) saved-length (split ∙ append-assoc (upToMap s) M (beforeBuffer l ++ B))
+      ∙ take-at M (beforeBuffer l ++ B) (mapSize l) (saved-map-long l (s .map))
 
-  pub saved-bytes-in : bytesIn (recordOf s) ≡ savedBytes (s .length) (s .map) (s .buffer)
-  saved-bytes-in =
-      let n = saved-bytes-long l (s .map) (s .buffer) in
-      ap₂ (λ (n : ℕ) (r : List ℕ). take n (drop (bytesAt n) r)) saved-length (sym (record-is s))
-      ∙ ap (take l) (drop-at (upToBytes s) B (bytesAt l) (up-to-bytes-long s))
+  pub saved-buffer-in : bufferIn (recordOf s) ≡ savedBuffer (s .length) (s .map) (s .buffer)
+  saved-buffer-in =
+      let n = saved-buffer-long l (s .map) (s .buffer) in
+      ap₂ (λ (n : ℕ) (r : List ℕ). take n (drop (bufferAt n) r)) saved-length (sym (record-is s))
+      ∙ ap (take l) (drop-at (upToBuffer s) B (bufferAt l) (up-to-buffer-long s))
       ∙ take-all l B (omega (arith, n))
 
   -- it is a record
@@ -139,7 +139,7 @@ module _ (s : Reception) (right : wrongLength (s .length) ≡ false) where
         fields = ap (λ (n : ℕ). fieldsRight n (recordOf s)) saved-length ∙ saved-fields;
         spare = ap₂ spareClear saved-length saved-map-in ∙ saved-spare l (s .map);
         unheld =
-            ap₂ (λ (n : ℕ) (m : List ℕ). unheldClear n m (bytesIn (recordOf s))) saved-length saved-map-in
-            ∙ ap (unheldClear l M) saved-bytes-in
+            ap₂ (λ (n : ℕ) (m : List ℕ). unheldClear n m (bufferIn (recordOf s))) saved-length saved-map-in
+            ∙ ap (unheldClear l M) saved-buffer-in
             ∙ saved-unheld l (s .map) (s .buffer);
       })

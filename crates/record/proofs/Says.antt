@@ -13,7 +13,7 @@ use Rattle.octets.specs.Numbers.{byteAt, numberAt}
 use Rattle.positions.specs.Map.{held, mapSize}
 use Rattle.positions.proofs.SpanLaws.{all-at}
 use Rattle.record.specs.declared.Recorded.{Recorded}
-use Rattle.record.specs.Reading.{lengthIn, mapIn, bytesIn, fieldAt, readRecord, recordedIn}
+use Rattle.record.specs.Reading.{lengthIn, mapIn, bufferIn, fieldAt, readRecord, recordedIn}
 use Rattle.record.specs.Says.{RecordSays}
 use Rattle.record.proofs.GivenAnswers.{is-formed, read-says}
 
@@ -46,8 +46,8 @@ its s e =
       map-field = field-says s 14 3 (mapSize l) (and-right (a && b) c three);
       buffer-field = field-says s (17 + mapSize l) 4 l (and-right (a && b && c) d (f .fields));
       spare = λ p low high. not-true _ (all-at (λ p. not (held (mapIn s) p)) l (mapSize l * 8 - l) (f .spare) p low (omega (arith, low, high)));
-      unheld = λ p low no. unless-held (held (mapIn s) p) (byteAt (bytesIn s) p)
-          (all-at (λ p. held (mapIn s) p || eqb (byteAt (bytesIn s) p) 0) 0 l (f .unheld) p (omega arith) (omega (arith, low))) no;
+      unheld = λ p low no. unless-held (held (mapIn s) p) (byteAt (bufferIn s) p)
+          (all-at (λ p. held (mapIn s) p || eqb (byteAt (bufferIn s) p) 0) 0 l (f .unheld) p (omega arith) (omega (arith, low))) no;
     }
 
 pub record-says : (saved : List ℕ) (x : Recorded) → readRecord saved ≡ accepted x → RecordSays saved x

@@ -10,7 +10,7 @@ use Rattle.octets.specs.Runs.{putIn}
 use Rattle.reception.specs.Reception.{Reception, shortSpace}
 use Rattle.record.specs.declared.Recorded.{Recorded}
 use Rattle.record.specs.declared.RecordRead.{RecordRead}
-use Rattle.record.specs.Reading.{numberIn, lengthIn, mapIn, bytesIn, isRecord, recordedIn, recordAnswer}
+use Rattle.record.specs.Reading.{numberIn, lengthIn, mapIn, bufferIn, isRecord, recordedIn, recordAnswer}
 
 -- "Loading: 13, 12"
 abbrev pub loadingChecks : List ℕ → List ℕ → List ℕ → List Check
@@ -25,7 +25,7 @@ abbrev pub loadedMap : List ℕ → List ℕ → List ℕ
 loadedMap s map = putIn map 0 (mapIn s)
 
 abbrev pub loadedBuffer : List ℕ → List ℕ → List ℕ
-loadedBuffer s buffer = putIn buffer 0 (bytesIn s)
+loadedBuffer s buffer = putIn buffer 0 (bufferIn s)
 
 -- the reception that is loaded then
 abbrev pub loaded : List ℕ → List ℕ → List ℕ → Reception

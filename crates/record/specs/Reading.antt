@@ -14,7 +14,7 @@ use Rattle.reception.specs.Reception.{wrongLength}
 use Rattle.record.specs.declared.Recorded.{Recorded}
 use Rattle.record.specs.declared.RecordRead.{RecordRead}
 use Rattle.record.specs.declared.RecordRead.the-variants.{Accepted, Refused}
-use Rattle.record.specs.Record.{mapAt, bytesAt, recordLength}
+use Rattle.record.specs.Record.{mapAt, bufferAt, recordLength}
 
 -- the number and the length that a record says
 abbrev pub numberIn : List ℕ → ℕ
@@ -31,8 +31,8 @@ part s at n = take n (drop at s)
 abbrev pub mapIn : List ℕ → List ℕ
 mapIn s = part s mapAt (mapSize (lengthIn s))
 
-abbrev pub bytesIn : List ℕ → List ℕ
-bytesIn s = part s (bytesAt (lengthIn s)) (lengthIn s)
+abbrev pub bufferIn : List ℕ → List ℕ
+bufferIn s = part s (bufferAt (lengthIn s)) (lengthIn s)
 
 -- the tag and the length of a field stand at a place
 abbrev pub fieldAt : List ℕ → ℕ → ℕ → ℕ → Bool
@@ -58,7 +58,7 @@ isRecord s =
     && eqb (length s) (recordLength l)
     && fieldsRight l s
     && spareClear l (mapIn s)
-    && unheldClear l (mapIn s) (bytesIn s)
+    && unheldClear l (mapIn s) (bufferIn s)
 
 -- what a record says
 abbrev pub recordedIn : List ℕ → Recorded

@@ -20,8 +20,8 @@ abbrev pub savedMap : ℕ → List ℕ → List ℕ
 savedMap l map = mapOf (heldOf l map) (mapSize l)
 
 -- field 04, the buffer: a held byte is the reception's; an unheld one is zero
-abbrev pub savedBytes : ℕ → List ℕ → List ℕ → List ℕ
-savedBytes l map buffer = valuesFrom (λ p. cond (held map p) (byteAt buffer p) 0) 0 l
+abbrev pub savedBuffer : ℕ → List ℕ → List ℕ → List ℕ
+savedBuffer l map buffer = valuesFrom (λ p. cond (held map p) (byteAt buffer p) 0) 0 l
 
 -- the record of a reception
 unfoldable pub recordOf : Reception → List ℕ
@@ -29,15 +29,15 @@ recordOf s =
     field 1 (bytesOf 4 (s .number))
     ++ field 2 (bytesOf 4 (s .length))
     ++ field 3 (savedMap (s .length) (s .map))
-    ++ field 4 (savedBytes (s .length) (s .map) (s .buffer))
+    ++ field 4 (savedBuffer (s .length) (s .map) (s .buffer))
 
 -- where field 03's data stand, and where field 04's do in the record of a file of l bytes
 abbrev pub mapAt : ℕ
 mapAt = 17
 
-abbrev pub bytesAt : ℕ → ℕ
-bytesAt l = mapAt + mapSize l + 3
+abbrev pub bufferAt : ℕ → ℕ
+bufferAt l = mapAt + mapSize l + 3
 
 -- how many bytes a record has: 20 + ceil(L/8) + L
 abbrev pub recordLength : ℕ → ℕ
-recordLength l = bytesAt l + l
+recordLength l = bufferAt l + l

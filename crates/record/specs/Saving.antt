@@ -5,7 +5,7 @@ use mathlib.Core.List.{List, [], _∷_}
 use Prim.Native.Nat.{ℕ}
 use lib.Dec.{ltb}
 use lib.ListN.{length}
-use Rattle.reason.specs.Answer.{Answer, accepted, refused, Writes}
+use Rattle.reason.specs.Answer.{Answer, accepted, refused, WritesAndTells}
 use Rattle.reason.specs.Order.{Check, check, firstOf}
 use Rattle.octets.specs.Runs.{putIn}
 use Rattle.reception.specs.Reception.{Reception, wrongLength, shortSpace}
@@ -31,4 +31,4 @@ savedAnswer (Refused n) = refused n
 
 -- The promise of `save`: what it answers, and that it leaves the record in the first bytes of the target, or every byte as it was.
 abbrev pub Saves : Reception → List ℕ → Saved → List ℕ → Type 0
-Saves s target r left = Writes target (saving s target) (λ n. putIn target 0 (recordOf s)) (savedAnswer r) left
+Saves s target r left = WritesAndTells target (saving s target) (λ n. putIn target 0 (recordOf s)) (savedAnswer r) left

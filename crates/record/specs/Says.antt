@@ -9,7 +9,7 @@ use Rattle.octets.specs.Numbers.{byteAt, numberAt}
 use Rattle.positions.specs.Map.{held, mapSize}
 use Rattle.reception.specs.Reception.{wrongLength}
 use Rattle.record.specs.declared.Recorded.{Recorded}
-use Rattle.record.specs.Reading.{mapIn, bytesIn}
+use Rattle.record.specs.Reading.{mapIn, bufferIn}
 
 -- Its length is in range and nothing follows; each field has its tag and its length at its place; spare bits and unheld bytes are
 -- zero.
@@ -21,4 +21,4 @@ pub record RecordSays (saved : List ℕ) (x : Recorded) : Type 0 where
   pub map-field : (byteAt saved 14 ≡ 0x03) × (numberAt 2 saved 15 ≡ mapSize (x .length))
   pub buffer-field : (byteAt saved (17 + mapSize (x .length)) ≡ 0x04) × (numberAt 2 saved (17 + mapSize (x .length) + 1) ≡ x .length)
   pub spare : (p : ℕ) → x .length ≤ p → p < mapSize (x .length) * 8 → held (mapIn saved) p ≡ false
-  pub unheld : (p : ℕ) → p < x .length → held (mapIn saved) p ≡ false → byteAt (bytesIn saved) p ≡ 0
+  pub unheld : (p : ℕ) → p < x .length → held (mapIn saved) p ≡ false → byteAt (bufferIn saved) p ≡ 0

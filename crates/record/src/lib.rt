@@ -20,7 +20,7 @@ const LENGTH_TAG: u8 = 2;
 
 const MAP_TAG: u8 = 3;
 
-const BYTES_TAG: u8 = 4;
+const BUFFER_TAG: u8 = 4;
 
 // How many bytes stand before the data of a field, its tag and its length, and how many bytes of data the
 // fields of the number and of the length have.
@@ -29,7 +29,7 @@ const BEFORE_DATA: usize = 3;
 const NUMBER_SIZE: usize = 4;
 
 // Where the fields start in a record, and where their data stand: number, length and map. The field of the
-// bytes starts behind the map (`reading::bytes_at`).
+// bytes starts behind the map (`reading::buffer_at`).
 const NUMBER_FIELD: usize = 0;
 
 const NUMBER_AT: usize = NUMBER_FIELD + BEFORE_DATA;
@@ -87,15 +87,15 @@ pub fn save(number: u32, length: u32, map: &[u8], buffer: &[u8], target: &mut [u
 pub fn load(saved: &[u8], map: &mut [u8], buffer: &mut [u8]) -> RecordRead
     ensures { λ r. ⌜ Loads (now (saved .entry)) (now (map .entry)) (now (buffer .entry)) r (now (map .exit)) (now (buffer .exit)) ⌝ }
 {
-    if !reading::is_record(saved) {
+    let said = reading::says(saved);
+    if !reading::is_record(saved, said.length) {
         return RecordRead::Refused(13);
     }
-    let said = reading::says(saved);
     if reception::short(said.length, map, buffer) {
         return RecordRead::Refused(12);
     }
-    octets::put(map, 0, reading::map_in(saved));
-    octets::put(buffer, 0, reading::bytes_in(saved));
+    octets::put(map, 0, reading::map_by(saved, said.length));
+    octets::put(buffer, 0, reading::buffer_by(saved, said.length));
     RecordRead::Accepted(said)
 }
 
@@ -103,10 +103,11 @@ pub fn load(saved: &[u8], map: &mut [u8], buffer: &mut [u8]) -> RecordRead
 pub fn read_record(saved: &[u8]) -> RecordRead
     ensures { λ r. ⌜ recordAnswer r ≡ readRecord (now (saved .entry)) ⌝ }
 {
-    if !reading::is_record(saved) {
+    let said = reading::says(saved);
+    if !reading::is_record(saved, said.length) {
         return RecordRead::Refused(13);
     }
-    RecordRead::Accepted(reading::says(saved))
+    RecordRead::Accepted(said)
 }
 
 // The map of a record that `read_record` has read: the record's own bytes. Of a record that is refused it is

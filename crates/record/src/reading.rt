@@ -1,6 +1,6 @@
 // A record, read.
 use super::BEFORE_DATA;
-use super::BYTES_TAG;
+use super::BUFFER_TAG;
 use super::LENGTH_AT;
 use super::LENGTH_FIELD;
 use super::LENGTH_TAG;
@@ -13,21 +13,19 @@ use super::NUMBER_SIZE;
 use super::NUMBER_TAG;
 use super::Recorded;
 ghost use mathlib.Core.Path.{_≡_};
-ghost use mathlib.Core.Bool.{true, cond};
-ghost use mathlib.Core.List.{[]};
-ghost use Prim.Native.Nat.{_+_, _-_, _*_, _/_, _≤_, _<_};
-ghost use lib.Dec.{leb};
+ghost use mathlib.Core.Bool.{true};
+ghost use Prim.Native.Nat.{_+_, _-_, _*_, _/_, _^_, _≤_, _<_};
 ghost use lib.ListN.{length};
 ghost use Rattle.positions.specs.Spans.{every};
 ghost use Rattle.positions.specs.Map.{mapSize};
 ghost use Rattle.reception.specs.Reception.{longest};
-ghost use Rattle.record.specs.Record.{mapAt, bytesAt, recordLength};
-ghost use Rattle.record.specs.Reading.{lengthIn, part, mapIn, bytesIn, fieldAt, fieldsRight, spareClear, unheldClear, isRecord, recordedIn};
-ghost use Rattle.record.specs.Inner.{clearAt};
+ghost use Rattle.record.specs.Record.{mapAt, bufferAt, recordLength};
+ghost use Rattle.record.specs.Reading.{lengthIn, fieldAt, fieldsRight, spareClear, unheldClear, isRecord, recordedIn};
+ghost use Rattle.record.specs.Inner.{partBy, clearAt};
 
 // Where the bytes of a file of a length stand in a record.
-pub(crate) fn bytes_at(l: u32) -> usize
-    ensures { λ r. ⌜ r ≡ bytesAt l ⌝ }
+pub(crate) fn buffer_at(l: u32) -> usize
+    ensures { λ r. ⌜ r ≡ bufferAt l ⌝ }
 {
     MAP_AT + reception::map_size(l) + BEFORE_DATA
 }
@@ -36,7 +34,7 @@ pub(crate) fn bytes_at(l: u32) -> usize
 pub(crate) fn record_length(l: u32) -> usize
     ensures { λ r. ⌜ r ≡ recordLength l ⌝ }
 {
-    bytes_at(l) + (l as usize)
+    buffer_at(l) + (l as usize)
 }
 
 // The number and the length that a record says.
@@ -49,44 +47,38 @@ pub(crate) fn says(saved: &[u8]) -> Recorded
     }
 }
 
-// The map of a record of a file of a length, where it fits.
-pub(crate) fn map_by(saved: &[u8], l: u32) -> &[u8]
-    ensures { λ r. ⌜ now r ≡ cond (leb (mapAt + mapSize l) (length (now (saved .entry)))) (part (now (saved .entry)) mapAt (mapSize l)) [] ⌝ }
+// The n bytes of a record from a place on, where they fit; else the empty part.
+fn part(saved: &[u8], at: usize, n: usize) -> &[u8]
+    requires { ⌜ at + n < 2 ^ 64 ⌝ }
+    ensures { λ r. ⌜ now r ≡ partBy (now (saved .entry)) at n ⌝ }
 {
-    let end = MAP_AT + reception::map_size(l);
+    let end = at + n;
     if end <= saved.len() {
-        return &saved[MAP_AT..end];
+        return &saved[at..end];
     }
     &saved[0..0]
 }
 
-// The map in a record that is long enough.
-pub(crate) fn map_in(saved: &[u8]) -> &[u8]
-    requires { ⌜ recordLength (lengthIn (now saved)) ≤ length (now saved) ⌝ }
-    ensures { λ r. ⌜ now r ≡ mapIn (now (saved .entry)) ⌝ }
+// The map of a record of a file of a length, where it fits.
+pub(crate) fn map_by(saved: &[u8], l: u32) -> &[u8]
+    ensures { λ r. ⌜ now r ≡ partBy (now (saved .entry)) mapAt (mapSize l) ⌝ }
 {
-    let l = octets::number4(saved, LENGTH_AT);
-    let end = MAP_AT + reception::map_size(l);
-    &saved[MAP_AT..end]
+    part(saved, MAP_AT, reception::map_size(l))
 }
 
-// The bytes in a record that is long enough.
-pub(crate) fn bytes_in(saved: &[u8]) -> &[u8]
-    requires { ⌜ recordLength (lengthIn (now saved)) ≤ length (now saved) ⌝ }
-    ensures { λ r. ⌜ now r ≡ bytesIn (now (saved .entry)) ⌝ }
+// The bytes of a record of a file of a length, where they fit.
+pub(crate) fn buffer_by(saved: &[u8], l: u32) -> &[u8]
+    ensures { λ r. ⌜ now r ≡ partBy (now (saved .entry)) (bufferAt l) l ⌝ }
 {
-    let l = octets::number4(saved, LENGTH_AT);
-    let from = bytes_at(l);
-    let end = record_length(l);
-    &saved[from..end]
+    part(saved, buffer_at(l), l as usize)
 }
 
-// Whether a record is one: the length in range, nothing behind it, the fields in their order, spare bits
-// and unheld bytes zero.
-pub(crate) fn is_record(saved: &[u8]) -> bool
+// Whether a record is one, by the length that it says: in range, nothing behind it, the fields in their order,
+// spare bits and unheld bytes zero.
+pub(crate) fn is_record(saved: &[u8], l: u32) -> bool
+    requires { ⌜ l ≡ lengthIn (now saved) ⌝ }
     ensures { λ r. ⌜ r ≡ isRecord (now (saved .entry)) ⌝ }
 {
-    let l = octets::number4(saved, LENGTH_AT);
     if reception::wrong_length(l) {
         return false;
     }
@@ -96,11 +88,11 @@ pub(crate) fn is_record(saved: &[u8]) -> bool
     if !fields_right(saved, l) {
         return false;
     }
-    let map = map_in(saved);
+    let map = map_by(saved, l);
     if !spare_clear(map, l as usize) {
         return false;
     }
-    unheld_clear(map, bytes_in(saved), l as usize)
+    unheld_clear(map, buffer_by(saved, l), l as usize)
 }
 
 // Whether the tag and the length of a field stand at a place.
@@ -120,7 +112,7 @@ fn fields_right(saved: &[u8], l: u32) -> bool
     let first = field_at(saved, NUMBER_FIELD, NUMBER_TAG, NUMBER_SIZE);
     let second = field_at(saved, LENGTH_FIELD, LENGTH_TAG, NUMBER_SIZE);
     let third = field_at(saved, MAP_FIELD, MAP_TAG, size);
-    let fourth = field_at(saved, MAP_AT + size, BYTES_TAG, l as usize);
+    let fourth = field_at(saved, MAP_AT + size, BUFFER_TAG, l as usize);
     first & second & third & fourth
 }
 
@@ -142,7 +134,7 @@ fn clear_at(b: u8, bytes: &[u8], from: usize, p: usize) -> bool
     ensures { λ r. ⌜ r ≡ clearAt b (now (bytes .entry)) from p ⌝ }
 {
     let byte = bytes[p];
-    ((b >> (p - from)) & 1 == 1) | (byte == 0)
+    positions::is_set(b, p - from) | (byte == 0)
 }
 
 // The same of the eight positions from `from` on. A full byte is passed over; of another, eight turns,

@@ -1,6 +1,6 @@
 // A record, written.
 use super::BEFORE_DATA;
-use super::BYTES_TAG;
+use super::BUFFER_TAG;
 use super::LENGTH_TAG;
 use super::MAP_AT;
 use super::MAP_TAG;
@@ -15,7 +15,7 @@ ghost use Rattle.octets.specs.Values.{valuesFrom};
 ghost use Rattle.octets.specs.Runs.{putIn};
 ghost use Rattle.positions.specs.Map.{mapSize};
 ghost use Rattle.reception.specs.Reception.{longest, wrongLength};
-ghost use Rattle.record.specs.Record.{field, savedMap, savedBytes, recordOf, recordLength};
+ghost use Rattle.record.specs.Record.{field, savedMap, savedBuffer, recordOf, recordLength};
 ghost use Rattle.record.specs.Inner.{byteSaved};
 
 // The bytes before the map: the fields of the number and of the length, and the tag and length of the map's.
@@ -48,22 +48,12 @@ fn before_map(number: u32, length: u32) -> [u8; MAP_AT]
 }
 
 // The tag and length of the field of the bytes.
-fn before_bytes(length: u32) -> [u8; BEFORE_DATA]
+fn before_buffer(length: u32) -> [u8; BEFORE_DATA]
     requires { ⌜ length ≤ longest ⌝ }
     ensures { λ r. ⌜ r ≡ 4 ∷ bytesOf 2 length ⌝ }
 {
     let l = octets::bytes2(length as u16);
-    [BYTES_TAG, l[0], l[1]]
-}
-
-// The lowest n bits of a byte, all of it where n is 8 or more.
-fn lowest(b: u8, n: usize) -> u8
-    ensures { λ r. ⌜ r ≡ b % 2 ^ n ⌝ }
-{
-    if 8 <= n {
-        return b;
-    }
-    b & ((1 << n) - 1)
+    [BUFFER_TAG, l[0], l[1]]
 }
 
 // Writes the map of a file of l bytes into the target from a place on, without its spare bits: only its last
@@ -75,7 +65,7 @@ fn put_map(map: &[u8], l: usize, target: &mut [u8], at: usize)
     let i = l / 8;
     octets::put(target, at, &map[..i]);
     if i * 8 < l {
-        target[at + i] = lowest(map[i], l - i * 8);
+        target[at + i] = positions::lowest(map[i], l - i * 8);
     }
 }
 
@@ -85,8 +75,7 @@ fn saved_at(b: u8, buffer: &[u8], from: usize, p: usize) -> u8
     requires { ⌜ (from ≤ p) × (p < from + 8) × (p < length (now buffer)) ⌝ }
     ensures { λ r. ⌜ r ≡ byteSaved b (now (buffer .entry)) from p ⌝ }
 {
-    let held = (b >> (p - from)) & 1;
-    buffer[p] & (255 * held)
+    buffer[p] & (255 * (positions::is_set(b, p - from) as u8))
 }
 
 // The bytes of the eight positions from `from` on. By way of an array all are read before one is written,
@@ -140,9 +129,9 @@ fn put_byte(b: u8, buffer: &[u8], from: usize, end: usize, target: &mut [u8], at
 
 // Writes the bytes of a file of l bytes into the target from a place on, unheld ones as zero. A map byte is
 // looked at once, the last one for itself where it has fewer than eight positions.
-fn put_bytes(map: &[u8], buffer: &[u8], l: usize, target: &mut [u8], at: usize)
+fn put_buffer(map: &[u8], buffer: &[u8], l: usize, target: &mut [u8], at: usize)
     requires { ⌜ (l ≤ longest) × (mapSize l ≤ length (now map)) × (l ≤ length (now buffer)) × (at + l ≤ length (now target)) ⌝ }
-    ensures { λ _. ⌜ now (target .exit) ≡ putIn (now (target .entry)) at (savedBytes l (now (map .entry)) (now (buffer .entry))) ⌝ }
+    ensures { λ _. ⌜ now (target .exit) ≡ putIn (now (target .entry)) at (savedBuffer l (now (map .entry)) (now (buffer .entry))) ⌝ }
 {
     let mut p = 0;
     while p + 8 <= l {
@@ -163,6 +152,6 @@ pub(crate) fn write(number: u32, l: u32, map: &[u8], buffer: &[u8], target: &mut
     let size = reception::map_size(l);
     octets::put(target, 0, &before_map(number, l));
     put_map(map, n, target, MAP_AT);
-    octets::put(target, MAP_AT + size, &before_bytes(l));
-    put_bytes(map, buffer, n, target, MAP_AT + size + BEFORE_DATA);
+    octets::put(target, MAP_AT + size, &before_buffer(l));
+    put_buffer(map, buffer, n, target, MAP_AT + size + BEFORE_DATA);
 }

@@ -8,7 +8,7 @@ use Rattle.reason.specs.Answer.{accepted, refused}
 use Rattle.reason.specs.Order.{firstOf}
 use Rattle.positions.specs.Spans.{every, count, first}
 use Rattle.positions.specs.Map.{bit, held}
-use Rattle.reception.specs.Listing.{listing}
+use Rattle.holes.specs.Listing.{listing}
 use Rattle.record.specs.Reading.{isRecord, readRecord}
 use Rattle.report.specs.declared.Reported.the-variants.{Accepted, Refused}
 use Rattle.report.specs.Decimal.{digitCount, decimal}

@@ -9,7 +9,7 @@ use lib.ListN.{length}
 use borrow.Author.Tests.{lt-ltb, le-ltb}
 use Rattle.reason.specs.Answer.{Answer, accepted, refused}
 use Rattle.reason.proofs.OrderLaws.{skip, stop, none-left}
-use Rattle.reason.proofs.Writing.{writes-refused, writes-accepted}
+use Rattle.reason.proofs.Writing.{tells-refused, tells-accepted}
 use Rattle.octets.specs.Runs.{putIn}
 use Rattle.positions.specs.Map.{mapSize}
 use Rattle.reception.specs.Reception.{wrongLength}
@@ -24,14 +24,14 @@ module _ (s out : List ℕ) where
   -- no room for the longest text
   pub reports-12 : length out < longestText → Reports s out (Refused 12) out
   unfolding reporting
-  reports-12 h = writes-refused out (reporting s out) (λ n. putIn out 0 (textOf s)) out 12 (stop _ _ _ (lt-ltb _ _ h)) refl
+  reports-12 h = tells-refused out (reporting s out) (λ n. putIn out 0 (textOf s)) out 12 (stop _ _ _ (lt-ltb _ _ h)) refl
 
   module _ (room : longestText ≤ length out) where
     -- a text that was written
     reported : (text : List ℕ) → textOf s ≡ text → (n : ℕ) (left : List ℕ) → n ≡ length text → left ≡ putIn out 0 text → Reports s out (Accepted n) left
     unfolding reporting
     reported text is n left d e =
-        writes-accepted out (reporting s out) (λ k. putIn out 0 (textOf s)) left n
+        tells-accepted out (reporting s out) (λ k. putIn out 0 (textOf s)) left n
         (skip _ _ _ (le-ltb _ _ room) ∙ none-left _ ∙ sym (ap accepted (d ∙ ap length (sym is))))
         (e ∙ ap (putIn out 0) (sym is))
 

@@ -7,15 +7,16 @@ use Prim.Native.Nat.{ℕ, zero, suc, _+_, _-_, _*_, _/_, _%_, _^_, _≤_, _<_}
 use native.Mathlib.Nat.{div-lt-iff-lt-mul, le-div-iff-mul-le, mod-eq-of-lt}
 use native.Mathlib.Omega.{arith}
 use lib.ListN.{length, getD, length-append}
+use Rattle.octets.specs.Lists.{Each}
 use Rattle.positions.specs.Map.{held}
 use Rattle.positions.proofs.SpanLaws.{count-most}
-use Rattle.reception.specs.declared.Hole.{Hole}
+use Rattle.holes.specs.declared.Hole.{Hole}
 use Rattle.reception.specs.Reception.{longest, wrongLength}
 use Rattle.reception.specs.Held.{heldCount}
-use Rattle.reception.specs.Holes.{IsHole}
-use Rattle.reception.specs.EveryHole.{endOf, listedFrom, Ascending, Each}
+use Rattle.holes.specs.Holes.{IsHole}
+use Rattle.holes.specs.EveryHole.{endOf, listedFrom, Ascending}
 use Rattle.reception.proofs.OfferLaws.{right-length}
-use Rattle.reception.proofs.HoleLaws.{all-are-holes, ascending}
+use Rattle.holes.proofs.HoleLaws.{all-are-holes, ascending}
 use Rattle.report.specs.Decimal.{digitCount, digits, decimal, numberSaid}
 use Rattle.report.specs.Text.{fileWord, lengthWord, heldWord, refusedWord, space, newline, fileLine, holeLine, holeLines, refusedLine, fileLines, longestText}
 use Rattle.report.proofs.DigitLaws.{power-pos, digit-count-from, digit-count-by, digit-count-most, digit-count-least, digit-count-enough, digits-first, decimal-long}

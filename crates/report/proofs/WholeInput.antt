@@ -16,11 +16,11 @@ use Rattle.reason.proofs.Bools.{le-or-lt}
 use Rattle.reason.proofs.OrderLaws.{accepted-only-if}
 use Rattle.octets.specs.Runs.{putIn}
 use Rattle.octets.proofs.RunLaws.{put-length}
-use Rattle.reception.specs.declared.Hole.{Hole}
+use Rattle.holes.specs.declared.Hole.{Hole}
 use Rattle.reception.specs.Reception.{longest, wrongLength}
 use Rattle.reception.specs.Held.{heldCount}
-use Rattle.reception.specs.EveryHole.{listedFrom, AllHoles}
-use Rattle.reception.proofs.HoleLaws.{all-holes}
+use Rattle.holes.specs.EveryHole.{listedFrom, AllHoles}
+use Rattle.holes.proofs.HoleLaws.{all-holes}
 use Rattle.record.specs.declared.Recorded.{Recorded}
 use Rattle.record.specs.Record.{recordLength}
 use Rattle.record.specs.Reading.{mapIn, isRecord, readRecord}

@@ -4,7 +4,7 @@ use mathlib.Core.List.{List, [], _∷_}
 use Prim.Native.Nat.{ℕ}
 use lib.Dec.{ltb}
 use lib.ListN.{length}
-use Rattle.reason.specs.Answer.{Answer, accepted, refused, Writes}
+use Rattle.reason.specs.Answer.{Answer, accepted, refused, WritesAndTells}
 use Rattle.reason.specs.Order.{Check, check, firstOf}
 use Rattle.octets.specs.Runs.{putIn}
 use Rattle.record.specs.declared.Recorded.{Recorded}
@@ -37,4 +37,4 @@ reportedAnswer (Refused n) = refused n
 
 -- The promise of `report`: what it answers, and that it leaves the text in the first bytes of the lent slice, or every byte as it was.
 abbrev pub Reports : List ℕ → List ℕ → Reported → List ℕ → Type 0
-Reports s out r left = Writes out (reporting s out) (λ n. putIn out 0 (textOf s)) (reportedAnswer r) left
+Reports s out r left = WritesAndTells out (reporting s out) (λ n. putIn out 0 (textOf s)) (reportedAnswer r) left

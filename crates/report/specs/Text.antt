@@ -3,10 +3,10 @@
 -- Assumes nothing.
 use mathlib.Core.List.{List, [], _∷_, _++_}
 use Prim.Native.Nat.{ℕ, suc, _+_, _*_}
-use Rattle.reception.specs.declared.Hole.{Hole}
+use Rattle.holes.specs.declared.Hole.{Hole}
 use Rattle.reception.specs.Reception.{longest}
 use Rattle.reception.specs.Held.{heldCount}
-use Rattle.reception.specs.EveryHole.{listedFrom}
+use Rattle.holes.specs.EveryHole.{listedFrom}
 use Rattle.report.specs.Decimal.{decimal}
 
 -- the words: `file `, ` length `, ` held `, `refused `; a space, and the end of a line

@@ -1,7 +1,7 @@
 // The lines of the text.
 use crate::number;
-use reception::Hole;
-use reception::Listed;
+use holes::Hole;
+use holes::Listed;
 ghost use mathlib.Core.Path.{_≡_};
 ghost use mathlib.Core.Bool.{false};
 ghost use Prim.Native.Nat.{_+_, _≤_};
@@ -9,7 +9,7 @@ ghost use lib.ListN.{length};
 ghost use Rattle.octets.specs.Runs.{putIn};
 ghost use Rattle.positions.specs.Map.{mapSize};
 ghost use Rattle.reception.specs.Reception.{wrongLength};
-ghost use Rattle.reception.specs.EveryHole.{listedFrom};
+ghost use Rattle.holes.specs.EveryHole.{listedFrom};
 ghost use Rattle.report.specs.Text.{fileLine, holeLine, holeLines, refusedLine, fileLines, longestText};
 
 // Writes the first line into the first bytes of out; the place behind it.
@@ -45,7 +45,7 @@ fn hole_lines(l: u32, map: &[u8], out: &mut [u8], from: usize) -> usize
     let mut at = from;
     let mut place = 0;
     while place < l {
-        let next = reception::list(l, map, place);
+        let next = holes::list(l, map, place);
         match next {
             Listed::Accepted(hole) => {
                 at = hole_line(hole, out, at);

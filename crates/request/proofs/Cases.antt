@@ -16,8 +16,8 @@ use Rattle.ax25.specs.Address.{isName, isWritable, addressAt, wellFormed}
 use Rattle.ax25.specs.Head.{headChecks, headOf, headBytes}
 use Rattle.ax25.specs.Information.{informationOf}
 use Rattle.ax25.specs.Examples.{va3sfl, uosat5, uosat5Bytes, spaces}
-use Rattle.reception.specs.declared.Hole.{Hole}
-use Rattle.reception.specs.Listing.{listing}
+use Rattle.holes.specs.declared.Hole.{Hole}
+use Rattle.holes.specs.Listing.{listing}
 use Rattle.request.specs.declared.Asks.{Asks}
 use Rattle.request.specs.declared.Asks.the-variants.{Start, Holes}
 use Rattle.request.specs.declared.Request.{Request}

@@ -10,9 +10,9 @@ use borrow.Author.Tests.{le-ltb}
 use Rattle.reason.specs.Answer.{Answer, accepted, refused}
 use Rattle.reason.specs.Order.{Check, check, firstOf}
 use Rattle.reason.proofs.OrderLaws.{accepted-only-if, refused-then, accepted-then, skip, none-left}
-use Rattle.reception.specs.Listing.{listingChecks}
-use Rattle.reception.specs.EveryHole.{lastEnd}
-use Rattle.reception.proofs.ListedLaws.{listed-most, listed-fewer}
+use Rattle.holes.specs.Listing.{listingChecks}
+use Rattle.holes.specs.EveryHole.{lastEnd}
+use Rattle.holes.proofs.ListedLaws.{listed-most, listed-fewer}
 use Rattle.request.specs.declared.Asks.the-variants.{Holes}
 use Rattle.request.specs.declared.Written.{Written}
 use Rattle.request.specs.Request.{mostHoles, frameLength}

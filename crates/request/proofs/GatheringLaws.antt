@@ -12,11 +12,11 @@ use Rattle.octets.specs.Runs.{putIn, Put}
 use Rattle.octets.proofs.RunLaws.{put-fits, put-put, put-length, put-nothing}
 use Rattle.ax25.specs.Address.{isWritable}
 use Rattle.ax25.specs.Head.{headLength, headBytes}
-use Rattle.ax25.specs.Information.{file}
-use Rattle.reception.specs.declared.Hole.{Hole}
-use Rattle.reception.specs.Listing.{listing}
-use Rattle.reception.specs.EveryHole.{endOf, listedFrom, lastEnd}
-use Rattle.reception.proofs.ListedLaws.{listed-none, listed-more, some-listed, listed-most}
+use Rattle.ax25.specs.Information.{fileProtocol}
+use Rattle.holes.specs.declared.Hole.{Hole}
+use Rattle.holes.specs.Listing.{listing}
+use Rattle.holes.specs.EveryHole.{endOf, listedFrom, lastEnd}
+use Rattle.holes.proofs.ListedLaws.{listed-none, listed-more, some-listed, listed-most}
 use Rattle.request.specs.declared.Asks.the-variants.{Holes}
 use Rattle.request.specs.declared.Filled.the-variants as filled
 use Rattle.request.specs.Request.{mostHoles, beforeHoles, bytesPerHole, requestBefore, holeBytes, holesBytes}
@@ -123,7 +123,7 @@ module _ (w : Wanted) (place : ℕ) (target : List ℕ) (good : (isWritable (w .
 
       pub gathered-written : mostHoles * bytesPerHole ≤ length entries → (part before after : List ℕ) (q : Bool)
           → part ≡ take (count * bytesPerHole) entries′
-          → before ≡ putIn target 0 (headBytes (w .head .destination) (w .head .source) file ++ requestBefore Holes (w .number))
+          → before ≡ putIn target 0 (headBytes (w .head .destination) (w .head .source) fileProtocol ++ requestBefore Holes (w .number))
           → Put before (headLength + beforeHoles) part q after → Fills w place target (filled.Accepted (record { count = count; end = end })) after
       gathered-written space part before after q is e put =
           fill-accepted w place target (record { count = count; end = end }) after told

@@ -7,7 +7,7 @@ use Rattle.reason.specs.Order.{Exactly}
 use Rattle.reason.proofs.OrderLaws.{exactly}
 use Rattle.octets.specs.Runs.{putIn}
 use Rattle.ax25.specs.declared.Head.{Head}
-use Rattle.reception.specs.EveryHole.{lastEnd}
+use Rattle.holes.specs.EveryHole.{lastEnd}
 use Rattle.request.specs.declared.Asks.the-variants.{Start}
 use Rattle.request.specs.Request.{requestFrame}
 use Rattle.request.specs.Reading.{requestOrder, requestOf, readRequest}

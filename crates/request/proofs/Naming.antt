@@ -13,21 +13,22 @@ use lib.ListN.{length}
 use borrow.Author.Tests.{leb-true, ltb-true}
 use Rattle.reason.specs.Answer.{accepted}
 use Rattle.reason.proofs.Bools.{and-left, and-right, or-cases, or-none}
+use Rattle.octets.specs.Lists.{OneOf, Each}
 use Rattle.positions.specs.Spans.{within}
 use Rattle.positions.specs.Map.{held, mapSize}
 use Rattle.positions.proofs.SpanLaws.{in-span, before-span}
 use Rattle.ax25.specs.Address.{isWritable}
-use Rattle.reception.specs.declared.Hole.{Hole}
+use Rattle.holes.specs.declared.Hole.{Hole}
 use Rattle.reception.specs.Reception.{wrongLength}
-use Rattle.reception.specs.Holes.{IsHole}
-use Rattle.reception.specs.Listing.{listing}
-use Rattle.reception.specs.EveryHole.{endOf, Ascending, OneOf, Each}
-use Rattle.reception.proofs.HoleLaws.{all-are-holes, in-a-hole}
+use Rattle.holes.specs.Holes.{IsHole}
+use Rattle.holes.specs.Listing.{listing}
+use Rattle.holes.specs.EveryHole.{endOf, Ascending}
+use Rattle.holes.proofs.HoleLaws.{all-are-holes, in-a-hole}
 use Rattle.request.specs.declared.Written.{Written}
 use Rattle.request.specs.Request.{mostHoles, frameLength}
 use Rattle.request.specs.Reading.{holesOf}
 use Rattle.request.specs.Writing.{Wanted, holesFrom, filling}
-use Rattle.request.specs.Run.{sent, sentFrom, together, EachFrame, names, naming}
+use Rattle.request.specs.Run.{sent, sentFrom, together, names, naming}
 use Rattle.request.proofs.SentLaws.{written-holes-are-read}
 use Rattle.request.proofs.WholeRun.{each-ascends, whole-run}
 
@@ -109,7 +110,7 @@ once low (hole ∷ holes) p up = by (within (hole .start) (hole .length) p) refl
     by false e rest = zero-add (times holes p) ∙ rest
 
 -- how many frames name it is how many of their holes it stands in
-frames-times : (frames : List (List ℕ)) (p : ℕ) → EachFrame (λ frame. Ascending 0 (holesOf frame)) frames
+frames-times : (frames : List (List ℕ)) (p : ℕ) → Each (λ frame. Ascending 0 (holesOf frame)) frames
     → naming frames p ≡ times (together frames) p
 unfolding times
 frames-times [] p up = refl

@@ -3,12 +3,12 @@
 use mathlib.Core.Path.{_≡_, refl}
 use mathlib.Core.List.{List}
 use Prim.Native.Nat.{ℕ}
-use Rattle.reason.specs.Answer.{Answer, accepted, refused, Wrote}
+use Rattle.reason.specs.Answer.{Answer, accepted, refused, Writes}
 use Rattle.reason.specs.declared.Outcome.{Outcome}
 use Rattle.reason.proofs.OnlyOne.{only-one, only-one-meant, only-one-written, only-one-told}
 use Rattle.octets.specs.Runs.{putIn}
 use Rattle.ax25.specs.declared.Head.{Head}
-use Rattle.reception.specs.declared.Hole.{Hole}
+use Rattle.holes.specs.declared.Hole.{Hole}
 use Rattle.request.specs.declared.Request.{Request}
 use Rattle.request.specs.declared.RequestRead.{RequestRead}
 use Rattle.request.specs.declared.RequestRead.the-variants as request
@@ -35,8 +35,8 @@ only-one-fill w place target r q left also d e =
 
 -- `write_start`
 pub only-one-start : (head : Head) (number : ℕ) (target : List ℕ) (r q : Outcome) (left also : List ℕ)
-    → Wrote target (starting head number target) r left
-    → Wrote target (starting head number target) q also → (r ≡ q) × (left ≡ also)
+    → Writes target (starting head number target) r left
+    → Writes target (starting head number target) q also → (r ≡ q) × (left ≡ also)
 only-one-start head number target r q left also d e = only-one-written target (starting head number target) r q left also d e
 
 -- `read_request`

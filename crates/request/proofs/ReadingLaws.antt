@@ -18,8 +18,8 @@ use Rattle.octets.specs.Values.{valuesFrom}
 use Rattle.octets.proofs.NumberLaws.{number-drop}
 use Rattle.ax25.specs.Head.{headLength}
 use Rattle.ax25.specs.Information.{informationOf}
-use Rattle.reception.specs.declared.Hole.{Hole}
-use Rattle.reception.specs.EveryHole.{endOf}
+use Rattle.holes.specs.declared.Hole.{Hole}
+use Rattle.holes.specs.EveryHole.{endOf}
 use Rattle.request.specs.declared.Asks.{Asks}
 use Rattle.request.specs.declared.Asks.the-variants.{Start, Holes}
 use Rattle.request.specs.Request.{blockSize, mostHoles, holesOfKind, beforeHoles, bytesPerHole, holeRight, holesRight}

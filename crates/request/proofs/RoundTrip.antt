@@ -14,6 +14,7 @@ use Rattle.reason.specs.Answer.{Answer, accepted}
 use Rattle.reason.specs.Order.{firstOf}
 use Rattle.reason.proofs.Bools.{and-left, and-right, and-both, le-or-lt}
 use Rattle.reason.proofs.OrderLaws.{accepted-then}
+use Rattle.octets.specs.Lists.{Each}
 use Rattle.octets.specs.Numbers.{byteAt, numberAt, bytesOf, AllBytes}
 use Rattle.octets.specs.Values.{valuesFrom}
 use Rattle.octets.proofs.NumberLaws.{number-behind, number-of-bytes, number-below, bytes-back}
@@ -21,18 +22,18 @@ use Rattle.octets.proofs.ValueLaws.{value-at, values-long}
 use Rattle.ax25.specs.declared.Head.{Head}
 use Rattle.ax25.specs.declared.Role.the-variants.{Destination, Source}
 use Rattle.ax25.specs.Head.{headLength, headBytes, headChecks, headOf, readHead}
-use Rattle.ax25.specs.Information.{file, informationOf}
+use Rattle.ax25.specs.Information.{fileProtocol, informationOf}
 use Rattle.ax25.proofs.SpellingLaws.{formed-is-writable}
 use Rattle.ax25.proofs.HeadLaws.{head-says}
 use Rattle.ax25.proofs.RoundTrip.{head-before-information, read-head-is-written}
-use Rattle.reception.specs.declared.Hole.{Hole}
-use Rattle.reception.specs.EveryHole.{Each, endOf}
+use Rattle.holes.specs.declared.Hole.{Hole}
+use Rattle.holes.specs.EveryHole.{endOf}
 use Rattle.request.specs.declared.Asks.{Asks}
 use Rattle.request.specs.declared.Asks.the-variants.{Start, Holes}
 use Rattle.request.specs.declared.Request.{Request}
 use Rattle.request.specs.Request.{flagsOf, blockSize, holesOfKind, beforeHoles, bytesPerHole, requestBefore, holeBytes, holesBytes, information, requestFrame, holeRight, holesRight}
 use Rattle.request.specs.Reading.{flagsAllowed, asksBy, countIn, oddBytes, countRight, holeSpelled, holeIn, holesIn, requestChecks, requestFields, requestOf, readRequest, noHole, holeRead, holeAt, holesRead, holesOf}
-use Rattle.request.specs.Made.{Makeable}
+use Rattle.request.specs.Making.{MakeableRequest}
 use Rattle.request.proofs.ReadingLaws.{most-of-kind, reads-request}
 use Rattle.request.proofs.WritingLaws.{holes-long}
 use Rattle.request.proofs.Says.{asked-flags, count-exact, layers, said, long, flagged, sized, right, counted, holes-are-in}
@@ -123,7 +124,7 @@ count-by s asks n f size e =
     asks-back Start = refl
     asks-back Holes = refl
 
-module _ (head : Head) (asks : Asks) (number : ℕ) (holes : List Hole) (m : Makeable head asks number holes) where
+module _ (head : Head) (asks : Asks) (number : ℕ) (holes : List Hole) (m : MakeableRequest head asks number holes) where
   abbrev Info : List ℕ
   Info = information asks number holes
 
@@ -145,10 +146,10 @@ module _ (head : Head) (asks : Asks) (number : ℕ) (holes : List Hole) (m : Mak
   unfolding requestFrame headBytes
   behind = refl
 
-  head-is-read : readHead file Frame ≡ accepted head
+  head-is-read : readHead fileProtocol Frame ≡ accepted head
   unfolding requestFrame
   head-is-read =
-      head-before-information (head .destination) (head .source) file Info (m .destination) (m .source)
+      head-before-information (head .destination) (head .source) fileProtocol Info (m .destination) (m .source)
       (omega (arith, info-long, most-of-kind asks (length holes) (m .as-many)))
 
   -- what the information says behind any head
@@ -166,8 +167,8 @@ module _ (head : Head) (asks : Asks) (number : ℕ) (holes : List Hole) (m : Mak
   pub made-request-is-read : readRequest Frame ≡ accepted (Said (length holes))
   unfolding readRequest
   made-request-is-read =
-      accepted-then (headChecks file Frame) (requestChecks (informationOf Frame)) (headOf Frame) head (requestOf Frame) head-is-read
-      ∙ ap₂ (λ (s : List ℕ) (h : Head). firstOf (requestChecks s) (requestFields h s)) behind (sym (head-says file Frame head head-is-read .is))
+      accepted-then (headChecks fileProtocol Frame) (requestChecks (informationOf Frame)) (headOf Frame) head (requestOf Frame) head-is-read
+      ∙ ap₂ (λ (s : List ℕ) (h : Head). firstOf (requestChecks s) (requestFields h s)) behind (sym (head-says fileProtocol Frame head head-is-read .is))
       ∙ reads-request Info (requestFields head Info) (omega (arith, info-long)) (flags-allowed asks)
       (and-both (eqb (numberAt 2 Info 5) blockSize) (countRight Info) refl (counts .1)) (ap (holesRight 0) holes-are ∙ m .right)
       ∙ ap accepted info-says
@@ -219,15 +220,15 @@ module _ (frame : List ℕ) (bytes : AllBytes frame) (r : Request) (read : readR
   pub accepted-request-is-made : requestFrame (r .head) (r .asks) (r .number) (holesOf frame) ≡ frame
   unfolding requestFrame requestFields
   accepted-request-is-made =
-      ap₂ (λ (x : Request) (holes : List Hole). headBytes (x .head .destination) (x .head .source) file ++ information (x .asks) (x .number) holes) (said frame r read) (holes-are-in frame r read)
-      ∙ ap₂ (λ (x y : List ℕ). x ++ y) (sym (read-head-is-written file frame (headOf frame) (layers frame r read .0) .0)) information-is
+      ap₂ (λ (x : Request) (holes : List Hole). headBytes (x .head .destination) (x .head .source) fileProtocol ++ information (x .asks) (x .number) holes) (said frame r read) (holes-are-in frame r read)
+      ∙ ap₂ (λ (x y : List ℕ). x ++ y) (sym (read-head-is-written fileProtocol frame (headOf frame) (layers frame r read .0) .0)) information-is
       ∙ take-append-drop headLength frame
 
   -- .. and these are a request that can be made.
-  pub accepted-request-can-be-made : Makeable (r .head) (r .asks) (r .number) (holesOf frame)
+  pub accepted-request-can-be-made : MakeableRequest (r .head) (r .asks) (r .number) (holesOf frame)
   unfolding requestFields headOf
   accepted-request-can-be-made =
-      let h = head-says file frame (headOf frame) (layers frame r read .0) in
+      let h = head-says fileProtocol frame (headOf frame) (layers frame r read .0) in
       rw ((said frame r read), (holes-are-in frame r read)) (record {
         destination = formed-is-writable Destination frame 0 (h .destination);
         source = formed-is-writable Source frame 7 (h .source);

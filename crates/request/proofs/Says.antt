@@ -16,9 +16,9 @@ use Rattle.reason.proofs.OrderLaws.{both-accept, accepted-only-if}
 use Rattle.octets.specs.Numbers.{byteAt, numberAt}
 use Rattle.octets.proofs.NumberLaws.{number-drop}
 use Rattle.ax25.specs.Head.{headLength, headChecks, headOf, readHead}
-use Rattle.ax25.specs.Information.{file, informationOf}
+use Rattle.ax25.specs.Information.{fileProtocol, informationOf}
 use Rattle.ax25.proofs.HeadLaws.{head-says}
-use Rattle.reception.specs.declared.Hole.{Hole}
+use Rattle.holes.specs.declared.Hole.{Hole}
 use Rattle.request.specs.declared.Asks.the-variants.{Start, Holes}
 use Rattle.request.specs.declared.Request.{Request}
 use Rattle.request.specs.Request.{flagsOf, blockSize, holesOfKind, beforeHoles, bytesPerHole, holesRight}
@@ -45,9 +45,9 @@ module _ (frame : List ℕ) (r : Request) (read : readRequest frame ≡ accepted
   abbrev S : List ℕ
   S = informationOf frame
 
-  pub layers : (readHead file frame ≡ accepted (headOf frame)) × (firstOf (requestChecks S) (requestOf frame) ≡ accepted r)
+  pub layers : (readHead fileProtocol frame ≡ accepted (headOf frame)) × (firstOf (requestChecks S) (requestOf frame) ≡ accepted r)
   unfolding readRequest
-  layers = both-accept (headChecks file frame) (requestChecks S) (headOf frame) (requestOf frame) r read
+  layers = both-accept (headChecks fileProtocol frame) (requestChecks S) (headOf frame) (requestOf frame) r read
 
   pub said : r ≡ requestOf frame
   said = accepted-only-if (requestChecks S) (requestOf frame) r (layers .1) .1
@@ -89,7 +89,7 @@ module _ (frame : List ℕ) (r : Request) (read : readRequest frame ≡ accepted
   pub request-says : RequestSays frame r
   unfolding requestFields
   request-says =
-      let h = head-says file frame (headOf frame) (layers .0) in
+      let h = head-says fileProtocol frame (headOf frame) (layers .0) in
       let size = count-exact S long counted in
       let block = eqb-true (numberAt 2 S 5) blockSize (and-left (eqb (numberAt 2 S 5) blockSize) (countRight S) sized) in
       let all : length S ≡ length frame - 16 = length-drop 16 frame in

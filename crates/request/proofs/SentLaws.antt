@@ -12,20 +12,21 @@ use Rattle.reason.specs.Answer.{Answer, accepted, refused, leaving}
 use Rattle.reason.specs.Order.{NoneHolds, firstOf}
 use Rattle.reason.proofs.Bools.{and-left, and-right, and-both}
 use Rattle.reason.proofs.OrderLaws.{accepted-only-if, accepted-if}
+use Rattle.octets.specs.Lists.{Each}
 use Rattle.octets.specs.Runs.{putIn}
 use Rattle.octets.proofs.RunLaws.{put-part}
 use Rattle.ax25.specs.declared.Head.{Head}
 use Rattle.ax25.specs.Address.{isWritable}
 use Rattle.ax25.specs.Head.{headLength, headBytes}
-use Rattle.ax25.specs.Information.{file}
-use Rattle.reception.specs.declared.Hole.{Hole}
+use Rattle.ax25.specs.Information.{fileProtocol}
+use Rattle.holes.specs.declared.Hole.{Hole}
 use Rattle.reception.specs.Reception.{longest, wrongLength}
-use Rattle.reception.specs.Holes.{holeFrom, IsHole}
-use Rattle.reception.specs.Listing.{listing, listingChecks}
-use Rattle.reception.specs.EveryHole.{endOf, listedFrom, lastEnd, Ascending, Each}
+use Rattle.holes.specs.Holes.{holeFrom, IsHole}
+use Rattle.holes.specs.Listing.{listing, listingChecks}
+use Rattle.holes.specs.EveryHole.{endOf, listedFrom, lastEnd, Ascending}
 use Rattle.reception.proofs.OfferLaws.{right-length}
-use Rattle.reception.proofs.HoleLaws.{all-are-holes, ascending}
-use Rattle.reception.proofs.ListedLaws.{listed-more, listed-most}
+use Rattle.holes.proofs.HoleLaws.{all-are-holes, ascending}
+use Rattle.holes.proofs.ListedLaws.{listed-more, listed-most}
 use Rattle.request.specs.declared.Asks.{Asks}
 use Rattle.request.specs.declared.Asks.the-variants.{Start, Holes}
 use Rattle.request.specs.declared.Written.{Written}
@@ -33,7 +34,7 @@ use Rattle.request.specs.declared.Filled.the-variants as filled
 use Rattle.request.specs.Request.{mostHoles, frameLength, requestBefore, holesBytes, information, requestFrame, holeRight, holesRight}
 use Rattle.request.specs.Reading.{readRequest, holesOf}
 use Rattle.request.specs.Writing.{Wanted, holesFrom, fillChecks, filling, fillFrame, Fills, startChecks, starting}
-use Rattle.request.specs.Made.{Makeable}
+use Rattle.request.specs.Making.{MakeableRequest}
 use Rattle.request.specs.Run.{sent}
 use Rattle.request.proofs.WritingLaws.{holes-long}
 use Rattle.request.proofs.RoundTrip.{made-request-is-read, made-holes-are-read}
@@ -61,7 +62,7 @@ pub frame-long : (head : Head) (asks : Asks) (number : ℕ) (holes : List Hole)
 unfolding requestFrame headBytes
 frame-long head asks number holes =
     omega
-    (arith, length-append (headBytes (head .destination) (head .source) file) (information asks number holes), length-append (requestBefore asks number) (holesBytes holes), holes-long holes)
+    (arith, length-append (headBytes (head .destination) (head .source) fileProtocol) (information asks number holes), length-append (requestBefore asks number) (holesBytes holes), holes-long holes)
 
 -- the first bytes of a target into which a frame was written are the frame
 frame-stands : (target run : List ℕ) (n : ℕ) → length run ≡ n → n ≤ length target → take n (putIn target 0 run) ≡ run
@@ -116,7 +117,7 @@ module _ (w : Wanted) (place : ℕ) (target : List ℕ) (x : Written) (written :
       (frame-long (w .head) Holes (w .number) (holesFrom w place)) room
 
   module _ (number : w .number < 256 ^ 4) where
-    fill-is-makeable : Makeable (w .head) Holes (w .number) (holesFrom w place)
+    fill-is-makeable : MakeableRequest (w .head) Holes (w .number) (holesFrom w place)
     fill-is-makeable = record {
       destination = and-left (isWritable (w .head .destination)) (isWritable (w .head .source)) can-write;
       source = and-right (isWritable (w .head .destination)) (isWritable (w .head .source)) can-write;

@@ -12,21 +12,22 @@ use lib.ListN.{length}
 use Rattle.reason.specs.Answer.{Answer, accepted, refused}
 use Rattle.reason.proofs.Bools.{le-or-lt}
 use Rattle.reason.proofs.OrderLaws.{not-both}
+use Rattle.octets.specs.Lists.{Each}
 use Rattle.positions.specs.Map.{mapSize}
 use Rattle.ax25.specs.Address.{isWritable}
-use Rattle.reception.specs.declared.Hole.{Hole}
+use Rattle.holes.specs.declared.Hole.{Hole}
 use Rattle.reception.specs.Reception.{wrongLength}
-use Rattle.reception.specs.Holes.{holeStart, holeFrom}
-use Rattle.reception.specs.Listing.{listing}
-use Rattle.reception.specs.EveryHole.{endOf, goOn, listedFrom, lastEnd, Ascending, AllHoles}
-use Rattle.reception.proofs.GivenReasons.{lists-15, lists}
-use Rattle.reception.proofs.HoleLaws.{ascending, all-holes-by}
-use Rattle.reception.proofs.ListedLaws.{listed-needs, listed-none}
+use Rattle.holes.specs.Holes.{holeStart, holeFrom}
+use Rattle.holes.specs.Listing.{listing}
+use Rattle.holes.specs.EveryHole.{endOf, goOn, listedFrom, lastEnd, Ascending, AllHoles}
+use Rattle.holes.proofs.GivenReasons.{lists-15, lists}
+use Rattle.holes.proofs.HoleLaws.{ascending, all-holes-by}
+use Rattle.holes.proofs.ListedLaws.{listed-needs, listed-none}
 use Rattle.request.specs.declared.Written.{Written}
 use Rattle.request.specs.Request.{mostHoles, frameLength}
 use Rattle.request.specs.Reading.{holesOf}
 use Rattle.request.specs.Writing.{Wanted, holesFrom, filling}
-use Rattle.request.specs.Run.{sent, sentFrom, placeAfter, together, EachFrame, Lists, Whole}
+use Rattle.request.specs.Run.{sent, sentFrom, placeAfter, together, Lists, Whole}
 use Rattle.request.proofs.WritingLaws.{fills-refused, fills}
 use Rattle.request.proofs.SentLaws.{ascend-earlier, can-write, listed, tells, lists-some, written-fill-is-read, written-holes-are-read}
 
@@ -128,9 +129,9 @@ module _ (w : Wanted) (target : List ℕ) (good : (isWritable (w .head .destinat
       ))
 
   -- each is accepted as a request for 1 to 49 holes
-  pub each-lists : (n place : ℕ) → EachFrame (Lists w) (sentFrom n w target place)
+  pub each-lists : (n place : ℕ) → Each (Lists w) (sentFrom n w target place)
   each-lists = by-run
-      (λ n place frames after. EachFrame (Lists w) frames)
+      (λ n place frames after. Each (Lists w) frames)
       (λ place. tt)
       (λ n place k e. tt)
       (λ n place frames after e more. (
@@ -144,9 +145,9 @@ module _ (w : Wanted) (target : List ℕ) (good : (isWritable (w .head .destinat
       ))
 
   -- the holes of each ascend
-  pub each-ascends : (n place : ℕ) → EachFrame (λ frame. Ascending 0 (holesOf frame)) (sentFrom n w target place)
+  pub each-ascends : (n place : ℕ) → Each (λ frame. Ascending 0 (holesOf frame)) (sentFrom n w target place)
   each-ascends = by-run
-      (λ n place frames after. EachFrame (λ frame. Ascending 0 (holesOf frame)) frames)
+      (λ n place frames after. Each (λ frame. Ascending 0 (holesOf frame)) frames)
       (λ place. tt)
       (λ n place k e. tt)
       (λ n place frames after e more. (

@@ -7,25 +7,25 @@ use Prim.Native.Nat.{ℕ, _+_, _*_, _≤_, _<_}
 use native.Mathlib.Omega.{arith}
 use lib.ListN.{length, take, length-append}
 use borrow.Author.Tests.{lt-ltb, le-ltb}
-use Rattle.reason.specs.Answer.{Wrote, accepted, refused}
+use Rattle.reason.specs.Answer.{Writes, accepted, refused}
 use Rattle.reason.specs.Order.{check, firstOf}
 use Rattle.reason.specs.declared.Outcome.{Outcome}
 use Rattle.reason.specs.declared.Outcome.the-variants as outcome
 use Rattle.reason.proofs.Bools.{and-both}
 use Rattle.reason.proofs.OrderLaws.{skip, stop, none-left, refused-then, accepted-then}
-use Rattle.reason.proofs.Writing.{wrote-refused, wrote-accepted, when-accepted, writes-refused, writes-accepted}
+use Rattle.reason.proofs.Writing.{writes-refused, writes-accepted, when-accepted, tells-refused, tells-accepted}
 use Rattle.octets.specs.Runs.{putIn, Put}
 use Rattle.octets.proofs.RunLaws.{put-more, put-part}
 use Rattle.ax25.specs.declared.Address.{Address}
 use Rattle.ax25.specs.declared.Head.{Head}
 use Rattle.ax25.specs.Address.{isWritable}
 use Rattle.ax25.specs.Head.{headLength, headBytes, writeHead}
-use Rattle.ax25.specs.Information.{file}
+use Rattle.ax25.specs.Information.{fileProtocol}
 use Rattle.ax25.proofs.WriteLaws.{head-written}
-use Rattle.reception.specs.declared.Hole.{Hole}
-use Rattle.reception.specs.Holes.{holeFrom}
-use Rattle.reception.specs.Listing.{listing, listingChecks}
-use Rattle.reception.specs.EveryHole.{lastEnd}
+use Rattle.holes.specs.declared.Hole.{Hole}
+use Rattle.holes.specs.Holes.{holeFrom}
+use Rattle.holes.specs.Listing.{listing, listingChecks}
+use Rattle.holes.specs.EveryHole.{lastEnd}
 use Rattle.request.specs.declared.Asks.{Asks}
 use Rattle.request.specs.declared.Asks.the-variants.{Start}
 use Rattle.request.specs.declared.Written.{Written}
@@ -43,12 +43,12 @@ module _ (target : List ℕ) (d s : Address) where
   -- the head, and the seven bytes behind it
   pub head-and-seven : (isWritable d ≡ true) → (isWritable s ≡ true) → headLength + beforeHoles ≤ length target
       → (seven before after run : List ℕ) (r : Outcome) (q : Bool)
-      → length run ≡ beforeHoles → seven ≡ run → Wrote target (writeHead target d s file) r before → Put before headLength seven q after
-      → after ≡ putIn target 0 (headBytes d s file ++ run)
+      → length run ≡ beforeHoles → seven ≡ run → Writes target (writeHead target d s fileProtocol) r before → Put before headLength seven q after
+      → after ≡ putIn target 0 (headBytes d s fileProtocol ++ run)
   unfolding headBytes
   head-and-seven gd gs room seven before after run r q size is wrote put =
-      put-more target 0 (headBytes d s file) run before q after
-      (when-accepted target (writeHead target d s file) r before _ wrote (head-written target d s file (and-both (isWritable d) (isWritable s) gd gs) (omega arith)) .1)
+      put-more target 0 (headBytes d s fileProtocol) run before q after
+      (when-accepted target (writeHead target d s fileProtocol) r before _ wrote (head-written target d s fileProtocol (and-both (isWritable d) (isWritable s) gd gs) (omega arith)) .1)
       (rw is at put) (omega arith)
 
   -- .. and the holes behind both
@@ -56,7 +56,7 @@ module _ (target : List ℕ) (d s : Address) where
       → frameLength (length holes) ≤ length target
       → length holes * bytesPerHole ≤ length entries
       → part ≡ take (length holes * bytesPerHole) (putIn entries 0 (holesBytes holes))
-      → before ≡ putIn target 0 (headBytes d s file ++ requestBefore asks number) → Put before (headLength + beforeHoles) part q after
+      → before ≡ putIn target 0 (headBytes d s fileProtocol ++ requestBefore asks number) → Put before (headLength + beforeHoles) part q after
       → after ≡ putIn target 0 (requestFrame (record { destination = d; source = s }) asks number holes)
   unfolding requestFrame headBytes
   and-holes asks number holes entries part before after q room space is e put =
@@ -64,28 +64,28 @@ module _ (target : List ℕ) (d s : Address) where
       is
       ∙ ap (λ (n : ℕ). take n (putIn entries 0 (holesBytes holes))) (sym (holes-long holes))
       ∙ put-part entries 0 (holesBytes holes) (omega (arith, holes-long holes)) in
-      put-more target 0 (headBytes d s file ++ requestBefore asks number) (holesBytes holes) before q after e (rw run at put)
+      put-more target 0 (headBytes d s fileProtocol ++ requestBefore asks number) (holesBytes holes) before q after e (rw run at put)
       (omega (arith, holes-long holes))
-      ∙ ap (putIn target 0) (append-assoc (headBytes d s file) (requestBefore asks number) (holesBytes holes))
+      ∙ ap (putIn target 0) (append-assoc (headBytes d s fileProtocol) (requestBefore asks number) (holesBytes holes))
 
 -- ---- a request for the start
 module _ (head : Head) (number : ℕ) (target : List ℕ) where
   pub start-2 : (isWritable (head .destination) && isWritable (head .source)) ≡ false
-      → Wrote target (starting head number target) (outcome.Refused 2) target
+      → Writes target (starting head number target) (outcome.Refused 2) target
   unfolding starting
-  start-2 g = wrote-refused target (starting head number target) target 2 (stop _ _ _ (ap not g)) refl
+  start-2 g = writes-refused target (starting head number target) target 2 (stop _ _ _ (ap not g)) refl
 
   module _ (good : (isWritable (head .destination) && isWritable (head .source)) ≡ true) where
-    pub start-12 : length target < headLength + beforeHoles → Wrote target (starting head number target) (outcome.Refused 12) target
+    pub start-12 : length target < headLength + beforeHoles → Writes target (starting head number target) (outcome.Refused 12) target
     unfolding starting
-    start-12 h = wrote-refused target (starting head number target) target 12 (skip _ _ _ (ap not good) ∙ stop _ _ _ (lt-ltb _ _ h)) refl
+    start-12 h = writes-refused target (starting head number target) target 12 (skip _ _ _ (ap not good) ∙ stop _ _ _ (lt-ltb _ _ h)) refl
 
     pub start-written : headLength + beforeHoles ≤ length target → (left : List ℕ)
-        → left ≡ putIn target 0 (headBytes (head .destination) (head .source) file ++ requestBefore Start number)
-        → Wrote target (starting head number target) outcome.Accepted left
+        → left ≡ putIn target 0 (headBytes (head .destination) (head .source) fileProtocol ++ requestBefore Start number)
+        → Writes target (starting head number target) outcome.Accepted left
     unfolding starting requestFrame
     start-written h left e =
-        wrote-accepted target (starting head number target) left _ (skip _ _ _ (ap not good) ∙ skip _ _ _ (le-ltb _ _ h) ∙ none-left _) e
+        writes-accepted target (starting head number target) left _ (skip _ _ _ (ap not good) ∙ skip _ _ _ (le-ltb _ _ h) ∙ none-left _) e
 
 -- ---- a request for holes
 module _ (w : Wanted) (place : ℕ) (target : List ℕ) where
@@ -126,8 +126,8 @@ module _ (w : Wanted) (place : ℕ) (target : List ℕ) where
 
   -- the promise of `write_fill`, by its answer
   pub fill-refused : (n : ℕ) → filling w place target ≡ refused n → Fills w place target (filled.Refused n) target
-  fill-refused n e = writes-refused target (filling w place target) (λ x. putIn target 0 (fillFrame w place)) target n e refl
+  fill-refused n e = tells-refused target (filling w place target) (λ x. putIn target 0 (fillFrame w place)) target n e refl
 
   pub fill-accepted : (x : Written) (left : List ℕ) → filling w place target ≡ accepted x → left ≡ putIn target 0 (fillFrame w place)
       → Fills w place target (filled.Accepted x) left
-  fill-accepted x left e l = writes-accepted target (filling w place target) (λ y. putIn target 0 (fillFrame w place)) left x e l
+  fill-accepted x left e l = tells-accepted target (filling w place target) (λ y. putIn target 0 (fillFrame w place)) left x e l

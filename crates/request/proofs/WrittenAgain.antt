@@ -19,21 +19,21 @@ use Rattle.positions.specs.Map.{held, mapSize}
 use Rattle.positions.proofs.SpanLaws.{in-span, before-span, behind-span}
 use Rattle.positions.proofs.MapLaws.{held-map, map-long}
 use Rattle.ax25.specs.Address.{isWritable}
-use Rattle.reception.specs.declared.Hole.{Hole}
+use Rattle.holes.specs.declared.Hole.{Hole}
 use Rattle.reception.specs.Reception.{longest}
-use Rattle.reception.specs.Holes.{holeStart, holeFrom, IsHole}
-use Rattle.reception.specs.Listing.{listing}
-use Rattle.reception.specs.EveryHole.{endOf, listedFrom, lastEnd, Ascending}
-use Rattle.reception.proofs.GivenReasons.{lists-15, lists}
-use Rattle.reception.proofs.HoleLaws.{hole-is, hole-first, hole-fixed, none-if, none-only-if}
-use Rattle.reception.proofs.ListedLaws.{listed-none, listed-more, some-listed}
+use Rattle.holes.specs.Holes.{holeStart, holeFrom, IsHole}
+use Rattle.holes.specs.Listing.{listing}
+use Rattle.holes.specs.EveryHole.{endOf, listedFrom, lastEnd, Ascending}
+use Rattle.holes.proofs.GivenReasons.{lists-15, lists}
+use Rattle.holes.proofs.HoleLaws.{hole-is, hole-first, hole-fixed, none-if, none-only-if}
+use Rattle.holes.proofs.ListedLaws.{listed-none, listed-more, some-listed}
 use Rattle.request.specs.declared.Asks.{Asks}
 use Rattle.request.specs.declared.Asks.the-variants.{Start, Holes}
 use Rattle.request.specs.declared.Request.{Request}
 use Rattle.request.specs.Request.{mostHoles, holesOfKind, frameLength, requestFrame, holeRight, holesRight}
 use Rattle.request.specs.Reading.{readRequest, holesOf}
 use Rattle.request.specs.Writing.{Wanted, holesFrom, filling, fillFrame, starting}
-use Rattle.request.specs.Made.{Makeable}
+use Rattle.request.specs.Making.{MakeableRequest}
 use Rattle.request.specs.Run.{names, allBut}
 use Rattle.request.proofs.WritingLaws.{fills}
 use Rattle.request.proofs.Naming.{none-before}
@@ -178,7 +178,7 @@ no-holes [] e = refl
 no-holes (hole ∷ holes) e = let z = eqb-true (length (hole ∷ holes)) 0 e in absurd (omega arith)
 
 module _ (frame : List ℕ) (bytes : AllBytes frame) (r : Request) (read : readRequest frame ≡ accepted r) where
-  can : Makeable (r .head) (r .asks) (r .number) (holesOf frame)
+  can : MakeableRequest (r .head) (r .asks) (r .number) (holesOf frame)
   can = accepted-request-can-be-made frame bytes r read
 
   both : (isWritable (r .head .destination) && isWritable (r .head .source)) ≡ true

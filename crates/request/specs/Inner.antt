@@ -6,8 +6,8 @@ use Prim.Native.Nat.{ℕ}
 use lib.ListN.{length}
 use Rattle.reason.specs.Answer.{refused}
 use Rattle.octets.specs.Runs.{putIn}
-use Rattle.reception.specs.Listing.{listing}
-use Rattle.reception.specs.EveryHole.{listedFrom, lastEnd}
+use Rattle.holes.specs.Listing.{listing}
+use Rattle.holes.specs.EveryHole.{listedFrom, lastEnd}
 use Rattle.request.specs.Request.{mostHoles, holesBytes}
 
 -- The holes from a place on, up to 49, are listed: how many, the end of the last, and their bytes; where there is none, the reason is

@@ -1,7 +1,7 @@
 pub mod Request
 pub mod Reading
 pub mod Writing
-pub mod Made
+pub mod Making
 pub mod Run
 pub mod Inner
 pub mod Says

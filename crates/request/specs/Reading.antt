@@ -11,8 +11,8 @@ use Rattle.octets.specs.Numbers.{byteAt, numberAt}
 use Rattle.octets.specs.Values.{valuesFrom}
 use Rattle.ax25.specs.declared.Head.{Head}
 use Rattle.ax25.specs.Head.{headChecks, headOf}
-use Rattle.ax25.specs.Information.{file, informationOf}
-use Rattle.reception.specs.declared.Hole.{Hole}
+use Rattle.ax25.specs.Information.{fileProtocol, informationOf}
+use Rattle.holes.specs.declared.Hole.{Hole}
 use Rattle.request.specs.declared.Asks.{Asks}
 use Rattle.request.specs.declared.Asks.the-variants.{Start, Holes}
 use Rattle.request.specs.declared.Request.{Request}
@@ -70,7 +70,7 @@ requestFields head s = record { head = head; asks = asksBy (byteAt s 0); number 
 
 -- all reasons of a request in their order: 1, 2, 3, 4, 7, 1, 5, 7, 10
 abbrev pub requestOrder : List ℕ → List Check
-requestOrder frame = headChecks file frame ++ requestChecks (informationOf frame)
+requestOrder frame = headChecks fileProtocol frame ++ requestChecks (informationOf frame)
 
 -- what a request says: both addresses, start or hole list, number and count
 abbrev pub requestOf : List ℕ → Request

@@ -7,10 +7,10 @@ use lib.Dec.{leb, eqb}
 use Rattle.octets.specs.Numbers.{bytesOf}
 use Rattle.ax25.specs.declared.Head.{Head}
 use Rattle.ax25.specs.Head.{headLength, headBytes}
-use Rattle.ax25.specs.Information.{file}
-use Rattle.reception.specs.declared.Hole.{Hole}
+use Rattle.ax25.specs.Information.{fileProtocol}
+use Rattle.holes.specs.declared.Hole.{Hole}
 use Rattle.reception.specs.Reception.{longest}
-use Rattle.reception.specs.EveryHole.{endOf}
+use Rattle.holes.specs.EveryHole.{endOf}
 use Rattle.request.specs.declared.Asks.{Asks}
 use Rattle.request.specs.declared.Asks.the-variants.{Start, Holes}
 
@@ -63,7 +63,7 @@ information asks number holes = requestBefore asks number ++ holesBytes holes
 
 -- its whole frame: protocol 0xBB, no check bytes
 unfoldable pub requestFrame : Head → Asks → ℕ → List Hole → List ℕ
-requestFrame head asks number holes = headBytes (head .destination) (head .source) file ++ information asks number holes
+requestFrame head asks number holes = headBytes (head .destination) (head .source) fileProtocol ++ information asks number holes
 
 -- a hole that starts at a place or later, has at least 1 byte, and does not end beyond 32,768
 abbrev pub holeRight : ℕ → Hole → Bool

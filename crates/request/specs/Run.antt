@@ -7,12 +7,13 @@ use mathlib.Core.List.{List, [], _∷_, _++_}
 use Prim.Native.Nat.{ℕ, zero, suc, _+_, _≤_}
 use lib.ListN.{length, take}
 use Rattle.reason.specs.Answer.{Answer, accepted, refused}
+use Rattle.octets.specs.Lists.{Each}
 use Rattle.octets.specs.Runs.{putIn}
 use Rattle.positions.specs.Spans.{within}
 use Rattle.positions.specs.Map.{mapSize, mapOf}
-use Rattle.reception.specs.declared.Hole.{Hole}
+use Rattle.holes.specs.declared.Hole.{Hole}
 use Rattle.reception.specs.Reception.{longest}
-use Rattle.reception.specs.EveryHole.{AllHoles}
+use Rattle.holes.specs.EveryHole.{AllHoles}
 use Rattle.request.specs.declared.Asks.the-variants.{Holes}
 use Rattle.request.specs.declared.Written.{Written}
 use Rattle.request.specs.Request.{mostHoles, frameLength}
@@ -49,11 +50,6 @@ abbrev pub together : List (List ℕ) → List Hole
 together [] = []
 together (frame ∷ frames) = holesOf frame ++ together frames
 
--- each of the frames has the property
-abbrev pub EachFrame : (List ℕ → Type 0) → List (List ℕ) → Type 0
-EachFrame P [] = Unit
-EachFrame P (frame ∷ frames) = P frame × EachFrame P frames
-
 -- a frame is accepted as a request that lists 1 to 49 holes, from and to the stations named, of the file with the number
 pub record Lists (w : Wanted) (frame : List ℕ) : Type 0 where
   pub count : ℕ
@@ -64,7 +60,7 @@ pub record Lists (w : Wanted) (frame : List ℕ) : Type 0 where
 -- What a whole run of requests is: each frame lists 1 to 49 holes, together they list every hole once, ascending, and the request
 -- after the last is refused 15.
 pub record Whole (w : Wanted) (target : List ℕ) (frames : List (List ℕ)) (after : ℕ) : Type 0 where
-  pub each : EachFrame (Lists w) frames
+  pub each : Each (Lists w) frames
   pub all : AllHoles (w .length) (w .map) (together frames)
   pub then-15 : filling w after target ≡ refused 15
 

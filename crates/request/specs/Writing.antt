@@ -5,14 +5,14 @@ use mathlib.Core.List.{List, [], _∷_, _++_}
 use Prim.Native.Nat.{ℕ}
 use lib.Dec.{ltb}
 use lib.ListN.{length}
-use Rattle.reason.specs.Answer.{Answer, accepted, refused, Writes}
+use Rattle.reason.specs.Answer.{Answer, accepted, refused, WritesAndTells}
 use Rattle.reason.specs.Order.{Check, check, firstOf}
 use Rattle.octets.specs.Runs.{putIn}
 use Rattle.ax25.specs.declared.Head.{Head}
 use Rattle.ax25.specs.Address.{isWritable}
-use Rattle.reception.specs.declared.Hole.{Hole}
-use Rattle.reception.specs.Listing.{listingChecks}
-use Rattle.reception.specs.EveryHole.{listedFrom, lastEnd}
+use Rattle.holes.specs.declared.Hole.{Hole}
+use Rattle.holes.specs.Listing.{listingChecks}
+use Rattle.holes.specs.EveryHole.{listedFrom, lastEnd}
 use Rattle.request.specs.declared.Asks.the-variants.{Start, Holes}
 use Rattle.request.specs.declared.Written.{Written}
 use Rattle.request.specs.declared.Filled.{Filled}
@@ -59,7 +59,7 @@ filledAnswer (Refused n) = refused n
 
 -- The promise of `write_fill`: what it answers, and that it leaves the frame in the first bytes of the target, or every byte as it was.
 abbrev pub Fills : Wanted → ℕ → List ℕ → Filled → List ℕ → Type 0
-Fills w place target r left = Writes target (filling w place target) (λ x. putIn target 0 (fillFrame w place)) (filledAnswer r) left
+Fills w place target r left = WritesAndTells target (filling w place target) (λ x. putIn target 0 (fillFrame w place)) (filledAnswer r) left
 
 -- "A start request: 2, 12"
 abbrev pub startChecks : Head → List ℕ → List Check

@@ -8,19 +8,19 @@
 // held, and each of these once, is in `proofs/Naming.antt`; that what is written is read back, and what is
 // accepted is what writing gives, in `proofs/RoundTrip.antt`, `proofs/SentLaws.antt` and
 // `proofs/WrittenAgain.antt`.
-mod holes;
+mod gathering;
 mod reading;
 mod writing;
 
 use ax25::Address;
-use ax25::FILE;
+use ax25::FILE_PROTOCOL;
 use ax25::HEAD_LENGTH;
 use ax25::Head;
 use ax25::HeadRead;
+use holes::Hole;
 use reason::Outcome;
-use reception::Hole;
 ghost use mathlib.Core.Path.{_≡_};
-ghost use Rattle.reason.specs.Answer.{Wrote};
+ghost use Rattle.reason.specs.Answer.{Writes};
 ghost use Rattle.request.specs.Reading.{requestAnswer, readRequest, holeRead, holeAt};
 ghost use Rattle.request.specs.Writing.{Fills, starting};
 
@@ -101,7 +101,7 @@ pub fn write_fill(
         return Filled::Refused(2);
     }
     let mut entries = [0; ENTRIES];
-    let listed = holes::gather(length, map, place, &mut entries);
+    let listed = gathering::gather(length, map, place, &mut entries);
     if listed.count == 0 {
         return Filled::Refused(listed.reason);
     }
@@ -119,7 +119,7 @@ pub fn write_fill(
 
 // Writes a request for the start of a file into the first bytes of the target; refuses 2, 12.
 pub fn write_start(destination: Address, source: Address, number: u32, target: &mut [u8]) -> Outcome
-    ensures { λ r. ⌜ Wrote (now (target .entry)) (starting (record { destination = destination; source = source }) number (now (target .entry))) r (now (target .exit)) ⌝ }
+    ensures { λ r. ⌜ Writes (now (target .entry)) (starting (record { destination = destination; source = source }) number (now (target .entry))) r (now (target .exit)) ⌝ }
 {
     if !(ax25::writable(destination) & ax25::writable(source)) {
         return Outcome::Refused(2);
@@ -136,7 +136,7 @@ pub fn write_start(destination: Address, source: Address, number: u32, target: &
 pub fn read_request(frame: &[u8]) -> RequestRead
     ensures { λ r. ⌜ requestAnswer r ≡ readRequest (now (frame .entry)) ⌝ }
 {
-    match ax25::read_head(frame, FILE) {
+    match ax25::read_head(frame, FILE_PROTOCOL) {
         HeadRead::Accepted(head) => reading::read(&frame[HEAD_LENGTH..], head),
         HeadRead::Refused(n) => RequestRead::Refused(n),
     }

@@ -10,7 +10,7 @@ use super::Request;
 use super::RequestRead;
 use super::START_FLAGS;
 use ax25::Head;
-use reception::Hole;
+use holes::Hole;
 use reception::LONGEST;
 ghost use mathlib.Core.Path.{_≡_};
 ghost use mathlib.Core.Bool.{cond};

@@ -1,7 +1,7 @@
 // The part of a frame before its holes, written.
 use super::BLOCK_SIZE;
 use ax25::Address;
-use ax25::FILE;
+use ax25::FILE_PROTOCOL;
 use ax25::HEAD_LENGTH;
 ghost use mathlib.Core.Path.{_≡_};
 ghost use mathlib.Core.Bool.{true};
@@ -12,7 +12,7 @@ ghost use Rattle.octets.specs.Numbers.{bytesOf};
 ghost use Rattle.octets.specs.Runs.{putIn};
 ghost use Rattle.ax25.specs.Address.{isWritable};
 ghost use Rattle.ax25.specs.Head.{headLength, headBytes};
-ghost use Rattle.ax25.specs.Information.{file};
+ghost use Rattle.ax25.specs.Information.{fileProtocol};
 ghost use Rattle.request.specs.Request.{blockSize, beforeHoles};
 
 // The seven bytes before the holes: flags, number and block size.
@@ -33,8 +33,8 @@ pub(crate) fn start_frame(
     number: u32,
 )
     requires { ⌜ (isWritable destination ≡ true) × (isWritable source ≡ true) × (headLength + beforeHoles ≤ length (now target)) ⌝ }
-    ensures { λ _. ⌜ now (target .exit) ≡ putIn (now (target .entry)) 0 (headBytes destination source file ++ flags ∷ (bytesOf 4 number ++ bytesOf 2 blockSize)) ⌝ }
+    ensures { λ _. ⌜ now (target .exit) ≡ putIn (now (target .entry)) 0 (headBytes destination source fileProtocol ++ flags ∷ (bytesOf 4 number ++ bytesOf 2 blockSize)) ⌝ }
 {
-    ax25::write_head(target, destination, source, FILE);
+    ax25::write_head(target, destination, source, FILE_PROTOCOL);
     octets::put(target, HEAD_LENGTH, &seven(flags, number));
 }

@@ -6,9 +6,9 @@ use mathlib.Core.List.{List}
 use Prim.Native.Nat.{ℕ}
 use borrow.Author.Needs.{needs}
 use borrow.Author.Tests.{not-true, not-false}
-use Rattle.reason.specs.Answer.{Wrote}
+use Rattle.reason.specs.Answer.{Writes}
 use Rattle.reason.specs.declared.Outcome.the-variants.{Accepted, Refused}
-use Rattle.reason.proofs.Writing.{wrote-refused, wrote-accepted}
+use Rattle.reason.proofs.Writing.{writes-refused, writes-accepted}
 use Rattle.octets.specs.Runs.{Put}
 use Rattle.octets.proofs.RunLaws.{put-told}
 use Rattle.ax25.specs.declared.Address.{Address}
@@ -19,18 +19,18 @@ use Rattle.ax25.proofs.write_address.Statement.{statement}
 use Rattle.ax25.proofs.write_address.Tie as tie
 
 module _ (role : Role) (out : List ℕ) (at : ℕ) (a : Address) where
-  malformed : isWritable a ≡ false → Wrote out (writeAddress role out at a) (Refused 2) out
-  malformed g = wrote-refused out (writeAddress role out at a) out 2 (address-2 role out at a g) refl
+  malformed : isWritable a ≡ false → Writes out (writeAddress role out at a) (Refused 2) out
+  malformed g = writes-refused out (writeAddress role out at a) out 2 (address-2 role out at a g) refl
 
   module _ (g : isWritable a ≡ true) (run : List ℕ) (is : run ≡ addressBytes role a) (r : Bool) (left : List ℕ) (p : Put out at run r left) where
     put-it : Put out at (addressBytes role a) r left
     put-it = rw is at p
 
-    written : r ≡ true → Wrote out (writeAddress role out at a) Accepted left
-    written t = let k = put-told out at (addressBytes role a) r left put-it true t in wrote-accepted out (writeAddress role out at a) left _ (address-written role out at a g (k .0)) (k .1)
+    written : r ≡ true → Writes out (writeAddress role out at a) Accepted left
+    written t = let k = put-told out at (addressBytes role a) r left put-it true t in writes-accepted out (writeAddress role out at a) left _ (address-written role out at a g (k .0)) (k .1)
 
-    short : r ≡ false → Wrote out (writeAddress role out at a) (Refused 12) left
-    short t = let k = put-told out at (addressBytes role a) r left put-it false t in wrote-refused out (writeAddress role out at a) left 12 (address-12 role out at a g (k .0)) (k .1)
+    short : r ≡ false → Writes out (writeAddress role out at a) (Refused 12) left
+    short t = let k = put-told out at (addressBytes role a) r left put-it false t in writes-refused out (writeAddress role out at a) left 12 (address-12 role out at a g (k .0)) (k .1)
 
 writable-requires : tie.Need-writable-requires
 writable-requires c κs = search needs

@@ -8,10 +8,10 @@ use native.Mathlib.Omega.{arith}
 use lib.ListN.{length}
 use borrow.Author.Needs.{needs}
 use borrow.Author.Tests.{not-true, not-false}
-use Rattle.reason.specs.Answer.{Wrote}
+use Rattle.reason.specs.Answer.{Writes}
 use Rattle.reason.specs.declared.Outcome.the-variants.{Accepted, Refused}
 use Rattle.reason.proofs.Bools.{and-left, and-right}
-use Rattle.reason.proofs.Writing.{wrote-refused, wrote-accepted}
+use Rattle.reason.proofs.Writing.{writes-refused, writes-accepted}
 use Rattle.octets.specs.Runs.{putIn, Put}
 use Rattle.octets.proofs.RunLaws.{put-fits, put-more}
 use Rattle.ax25.specs.declared.Address.{Address}
@@ -23,21 +23,21 @@ use Rattle.ax25.proofs.write_head.Statement.{statement}
 use Rattle.ax25.proofs.write_head.Tie as tie
 
 module _ (out : List ℕ) (d s : Address) (protocol : ℕ) where
-  malformed : (isWritable d && isWritable s) ≡ false → Wrote out (writeHead out d s protocol) (Refused 2) out
-  malformed g = wrote-refused out (writeHead out d s protocol) out 2 (head-2 out d s protocol g) refl
+  malformed : (isWritable d && isWritable s) ≡ false → Writes out (writeHead out d s protocol) (Refused 2) out
+  malformed g = writes-refused out (writeHead out d s protocol) out 2 (head-2 out d s protocol g) refl
 
   module _ (good : (isWritable d && isWritable s) ≡ true) where
-    short : length out < 16 → Wrote out (writeHead out d s protocol) (Refused 12) out
-    short l = wrote-refused out (writeHead out d s protocol) out 12 (head-12 out d s protocol good l) refl
+    short : length out < 16 → Writes out (writeHead out d s protocol) (Refused 12) out
+    short l = writes-refused out (writeHead out d s protocol) out 12 (head-12 out d s protocol good l) refl
 
     written : 16 ≤ length out → (to from l1 l2 l3 : List ℕ) (p q r : Bool) → to ≡ addressBytes Destination d → from ≡ addressBytes Source s
-        → Put out 0 to p l1 → Put l1 7 from q l2 → Put l2 14 (control ∷ protocol ∷ []) r l3 → Wrote out (writeHead out d s protocol) Accepted l3
+        → Put out 0 to p l1 → Put l1 7 from q l2 → Put l2 14 (control ∷ protocol ∷ []) r l3 → Writes out (writeHead out d s protocol) Accepted l3
     unfolding headBytes
     written l to from l1 l2 l3 p q r dt sf first second third =
         let e1 : l1 ≡ putIn out 0 (addressBytes Destination d) = put-fits out 0 _ p l1 (rw dt at first) (omega arith) .1 in
         let e2 : l2 ≡ putIn out 0 (addressBytes Destination d ++ addressBytes Source s) = put-more out 0 _ _ l1 q l2 e1 (rw sf at second) (omega arith) in
         let e3 : l3 ≡ putIn out 0 (headBytes d s protocol) = put-more out 0 _ _ l2 r l3 e2 third (omega arith) in
-        wrote-accepted out (writeHead out d s protocol) l3 _ (head-written out d s protocol good l) e3
+        writes-accepted out (writeHead out d s protocol) l3 _ (head-written out d s protocol good l) e3
 
 -- both addresses can be written, of the arguments at entry
 abbrev Good : tie.Start → Bool

@@ -4,7 +4,7 @@ use mathlib.Core.Path.{sym, ap, _∙_}
 use denote.Ref.{now}
 use borrow.Author.Needs.{needs}
 use Rattle.frame.specs.declared.PieceRead.{PieceRead}
-use Rattle.frame.specs.Piece.{pieceAnswer, bytesRead}
+use Rattle.frame.specs.Piece.{pieceAnswer, pieceBytesRead}
 use Rattle.frame.proofs.piece_of.Statement.{statement}
 use Rattle.frame.proofs.piece_of.Tie as tie
 
@@ -29,7 +29,7 @@ part-result-end c = search needs
 returns : tie.Need-returns
 returns c =
     let a = c .before .before .before .before .args in
-    c .between .ensures ∙ sym (ap (λ (r : PieceRead). bytesRead (pieceAnswer r) (now (a .frame))) (c .before .enum-told .given .1))
+    c .between .ensures ∙ sym (ap (λ (r : PieceRead). pieceBytesRead (pieceAnswer r) (now (a .frame))) (c .before .enum-told .given .1))
 
 returns-2 : tie.Need-returns-2
 returns-2 c = search needs

@@ -5,7 +5,7 @@ use lib.ListN.{length}
 use denote.Ref.{now}
 use borrow.Author.Needs.{needs}
 use Rattle.ax25.specs.Head.{headLength}
-use Rattle.ax25.specs.Information.{file}
+use Rattle.ax25.specs.Information.{fileProtocol}
 use Rattle.frame.specs.Piece.{pieceChecks, pieceFields, readPiece}
 use Rattle.ax25.proofs.Layers.{long, behind-head, refused-head}
 use Rattle.frame.proofs.read_piece.Statement.{statement}
@@ -15,7 +15,7 @@ use Rattle.frame.proofs.read_piece.Tie as tie
 headed : (c : tie.After-head) → headLength ≤ length (now (c .before .before .before .before .args .frame))
 headed c =
     let r = c .before .before in
-    long file (now (r .before .before .args .frame)) pieceChecks pieceFields _ (r .read-head .ensures) _ (c .head .given .1)
+    long fileProtocol (now (r .before .before .args .frame)) pieceChecks pieceFields _ (r .read-head .ensures) _ (c .head .given .1)
 
 read-head-requires : tie.Need-read-head-requires
 read-head-requires c κs = search needs
@@ -43,14 +43,14 @@ unfolding readPiece
 returns c =
     let h = c .before .before .before in
     let r = h .before .before in
-    behind-head file (now (r .before .before .args .frame)) pieceChecks pieceFields _ (r .read-head .ensures) _ (h .head .given .1) _ (c .read .ensures)
+    behind-head fileProtocol (now (r .before .before .args .frame)) pieceChecks pieceFields _ (r .read-head .ensures) _ (h .head .given .1) _ (c .read .ensures)
 
 returns-2 : tie.Need-returns-2
 unfolding readPiece
 returns-2 c =
     let n = c .before in
     let r = n .before .before in
-    refused-head file (now (r .before .before .args .frame)) pieceChecks pieceFields _ (r .read-head .ensures) _ (n .n .given .1)
+    refused-head fileProtocol (now (r .before .before .args .frame)) pieceChecks pieceFields _ (r .read-head .ensures) _ (n .n .given .1)
 
 pub read-piece-spec : {M : Type 1} → statement M
 read-piece-spec =

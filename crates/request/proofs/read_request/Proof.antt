@@ -7,7 +7,7 @@ use Prim.Native.Nat.{_≤_}
 use lib.ListN.{length}
 use denote.Ref.{now}
 use Rattle.ax25.specs.Head.{headLength}
-use Rattle.ax25.specs.Information.{file}
+use Rattle.ax25.specs.Information.{fileProtocol}
 use Rattle.ax25.proofs.Layers.{long, behind-head, refused-head}
 use Rattle.request.specs.Reading.{requestChecks, requestFields, readRequest}
 
@@ -15,7 +15,7 @@ use Rattle.request.specs.Reading.{requestChecks, requestFields, readRequ
 headed : (c : tie.After-head) → headLength ≤ length (now (c .before .before .before .before .args .frame))
 headed c =
     let r = c .before .before in
-    long file (now (r .before .before .args .frame)) requestChecks requestFields _ (r .read-head .ensures) _ (c .head .given .1)
+    long fileProtocol (now (r .before .before .args .frame)) requestChecks requestFields _ (r .read-head .ensures) _ (c .head .given .1)
 
 read-head-requires : tie.Need-read-head-requires
 read-head-requires c κs = search needs
@@ -43,7 +43,7 @@ unfolding readRequest
 returns c =
     let h = c .before .before .before in
     let r = h .before .before in
-    behind-head file (now (r .before .before .args .frame)) requestChecks requestFields _ (r .read-head .ensures) _ (h .head .given .1) _
+    behind-head fileProtocol (now (r .before .before .args .frame)) requestChecks requestFields _ (r .read-head .ensures) _ (h .head .given .1) _
     (c .read .ensures)
 
 returns-2 : tie.Need-returns-2
@@ -51,7 +51,7 @@ unfolding readRequest
 returns-2 c =
     let n = c .before in
     let r = n .before .before in
-    refused-head file (now (r .before .before .args .frame)) requestChecks requestFields _ (r .read-head .ensures) _ (n .n .given .1)
+    refused-head fileProtocol (now (r .before .before .args .frame)) requestChecks requestFields _ (r .read-head .ensures) _ (n .n .given .1)
 
 pub read-request-spec : {M : Type 1} → statement M
 read-request-spec =

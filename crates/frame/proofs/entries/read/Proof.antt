@@ -21,7 +21,7 @@ use Rattle.header.specs.declared.Header.{Header}
 use Rattle.header.specs.declared.HeaderRead.{HeaderRead}
 use Rattle.header.specs.declared.HeaderRead.the-variants as header
 use Rattle.header.specs.Header.{headerLength, keepsRules, headerOf, headerAnswer, readHeader}
-use Rattle.header.proofs.HeaderLaws.{header-accepted, header-refused, told-length}
+use Rattle.header.proofs.HeaderLaws.{header-accepted, header-refused, told-size}
 use Rattle.frame.specs.declared.Entry.{Entry}
 use Rattle.frame.specs.Entry.{flagsAllowed, headerWhole, headerPart, headerRight, entryChecks, entryFields}
 use Rattle.frame.proofs.EntryLaws.{reads-1, reads-6, reads-5, reads-14, reads-8, reads-entry}
@@ -45,18 +45,18 @@ module _ (s : List ℕ) (long : 19 ≤ length s) (number : ℕ) (named : number 
     kept : keepsRules (headerPart s) (numberAt 4 s 1) ≡ true
     kept = ap (keepsRules (headerPart s)) (sym named) ∙ header-accepted (headerPart s) number h (sym read ∙ ap headerAnswer told) .0
 
-    bytes : h .bytes ≡ headerLength (headerPart s)
-    bytes = ap (λ (x : Header). x .bytes) is ∙ told-length (headerPart s)
+    sized : h .size ≡ headerLength (headerPart s)
+    sized = ap (λ (x : Header). x .size) is ∙ told-size (headerPart s)
 
-    followed : (h .bytes ≡ length s - 2 - 17 → ⊥) → headerRight s ≡ false
+    followed : (h .size ≡ length s - 2 - 17 → ⊥) → headerRight s ≡ false
     followed d =
-        ap (λ (b : Bool). keepsRules (headerPart s) (numberAt 4 s 1) && b) (ne-eqb (headerLength (headerPart s)) (length (headerPart s)) (λ e. d (bytes ∙ e ∙ part-long)))
+        ap (λ (b : Bool). keepsRules (headerPart s) (numberAt 4 s 1) && b) (ne-eqb (headerLength (headerPart s)) (length (headerPart s)) (λ e. d (sized ∙ e ∙ part-long)))
         ∙ and-false (keepsRules (headerPart s) (numberAt 4 s 1))
 
-    alone : h .bytes ≡ length s - 2 - 17 → headerRight s ≡ true
+    alone : h .size ≡ length s - 2 - 17 → headerRight s ≡ true
     alone e =
         and-both (keepsRules (headerPart s) (numberAt 4 s 1)) (eqb (headerLength (headerPart s)) (length (headerPart s))) kept
-        (eq-eqb (headerLength (headerPart s)) (length (headerPart s)) (sym bytes ∙ e ∙ sym part-long))
+        (eq-eqb (headerLength (headerPart s)) (length (headerPart s)) (sym sized ∙ e ∙ sym part-long))
 
 fields : (head : Head) (s : List ℕ) (number offset old new : ℕ) (h : Header) → number ≡ numberAt 4 s 1 → offset ≡ numberAt 4 s 5
     → old ≡ numberAt 4 s 9

@@ -13,14 +13,14 @@ use borrow.Author.Needs.{needs}
 use borrow.Author.Tests.{not-true, not-false}
 use Rattle.header.specs.declared.Pair.{Pair}
 use Rattle.header.specs.Items.{mandatoryItems}
-use Rattle.header.specs.Header.{mandatory, every, once}
+use Rattle.header.specs.Header.{mandatory, everyPair, once}
 use Rattle.header.specs.Notes.{byId}
 use Rattle.header.proofs.TableLaws.{eleven}
 use Rattle.header.proofs.notes.all_once.Statement.{statement}
 use Rattle.header.proofs.notes.all_once.Tie as tie
 
 abbrev Inv-loop : tie.InvT-loop
-Inv-loop counts sizes table k₀ k = (k ≤ 11) × (every (once (byId counts) (byId sizes)) (drop k mandatory) ≡ every (once (byId counts) (byId sizes)) mandatory)
+Inv-loop counts sizes table k₀ k = (k ≤ 11) × (everyPair (once (byId counts) (byId sizes)) (drop k mandatory) ≡ everyPair (once (byId counts) (byId sizes)) mandatory)
 
 abbrev μ-loop : tie.MeasureT-loop
 μ-loop counts sizes table k₀ k = 11 - k
@@ -30,16 +30,16 @@ nothing = record { id = 0; size = 0 }
 
 -- one pair, and the pairs behind it
 scan : (test : Pair → Bool) (ps : List Pair) (k : ℕ) → k < length ps
-    → every test (drop k ps) ≡ (test (getD ps k nothing) && every test (drop (k + 1) ps))
+    → everyPair test (drop k ps) ≡ (test (getD ps k nothing) && everyPair test (drop (k + 1) ps))
 scan test ps k h = rw (add-one, drop-cons ps k nothing)
 
 scanned : (test : Pair → Bool) (ps : List Pair) (k : ℕ) (b : Bool) → k < length ps → test (getD ps k nothing) ≡ b
-    → every test (drop k ps) ≡ every test ps
-    → (b && every test (drop (k + 1) ps)) ≡ every test ps
-scanned test ps k b h e i = sym (ap (λ (x : Bool). x && every test (drop (k + 1) ps)) e) ∙ sym (scan test ps k h) ∙ i
+    → everyPair test (drop k ps) ≡ everyPair test ps
+    → (b && everyPair test (drop (k + 1) ps)) ≡ everyPair test ps
+scanned test ps k b h e i = sym (ap (λ (x : Bool). x && everyPair test (drop (k + 1) ps)) e) ∙ sym (scan test ps k h) ∙ i
 
-all-done : (test : Pair → Bool) (ps : List Pair) (k : ℕ) → length ps ≤ k → every test (drop k ps) ≡ every test ps → true ≡ every test ps
-all-done test ps k h i = sym (ap (every test) (drop-of-length-le ps h)) ∙ i
+all-done : (test : Pair → Bool) (ps : List Pair) (k : ℕ) → length ps ≤ k → everyPair test (drop k ps) ≡ everyPair test ps → true ≡ everyPair test ps
+all-done test ps k h i = sym (ap (everyPair test) (drop-of-length-le ps h)) ∙ i
 
 -- the test of one pair
 abbrev Test : tie.At-loop Inv-loop μ-loop → Pair → Bool

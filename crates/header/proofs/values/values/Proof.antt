@@ -5,7 +5,7 @@ use mathlib.Core.List.{List}
 use Prim.Native.Nat.{ℕ}
 use denote.Ref.{now}
 use Rattle.octets.specs.Numbers.{byteAt, numberAt}
-use Rattle.header.specs.declared.Meaning.the-variants.{FileNumber, FileName, FileExtension, FileSize, CreationTime, ModificationTime, UpsetFlag, FileType, BodySum, HeaderSum, BodyOffset, UploadTime}
+use Rattle.header.specs.declared.Meaning.the-variants.{FileNumber, FileName, FileExtension, FileLength, CreationTime, ModificationTime, UpsetFlag, FileType, BodySum, HeaderSum, BodyOffset, UploadTime}
 use Rattle.header.specs.declared.Name.{Name}
 use Rattle.header.specs.declared.Extension.{Extension}
 use Rattle.header.specs.declared.Upload.{Upload}
@@ -17,11 +17,11 @@ use borrow.Author.Needs.{needs}
 use Rattle.header.proofs.values.values.Statement.{statement}
 use Rattle.header.proofs.values.values.Tie as tie
 
-made : (s : List ℕ) (end : ℕ) (counts starts : List ℕ) (number : ℕ) (name : Name) (extension : Extension) (size : ℕ) (created : ℕ) (modified : ℕ) (upset : ℕ) (kind : ℕ) (bodysum : ℕ) (headersum : ℕ) (body : ℕ) (upload : Upload)
+made : (s : List ℕ) (end : ℕ) (counts starts : List ℕ) (number : ℕ) (name : Name) (extension : Extension) (whole : ℕ) (created : ℕ) (modified : ℕ) (upset : ℕ) (kind : ℕ) (bodysum : ℕ) (headersum : ℕ) (body : ℕ) (upload : Upload)
     → number ≡ numberAt 4 s (noteOf starts FileNumber)
     → name ≡ nameAt s (noteOf starts FileName)
     → extension ≡ extensionAt s (noteOf starts FileExtension)
-    → size ≡ numberAt 4 s (noteOf starts FileSize)
+    → whole ≡ numberAt 4 s (noteOf starts FileLength)
     → created ≡ numberAt 4 s (noteOf starts CreationTime)
     → modified ≡ numberAt 4 s (noteOf starts ModificationTime)
     → upset ≡ byteAt s (noteOf starts UpsetFlag)
@@ -30,9 +30,9 @@ made : (s : List ℕ) (end : ℕ) (counts starts : List ℕ) (number : ℕ) (nam
     → headersum ≡ numberAt 2 s (noteOf starts HeaderSum)
     → body ≡ numberAt 2 s (noteOf starts BodyOffset)
     → upload ≡ uploadBy (noteOf counts UploadTime) (noteOf starts UploadTime) s
-    → _≡_ {A = Header} (record { number = number; name = name; extension = extension; size = size; created = created; modified = modified; upset = upset; kind = kind; bodysum = bodysum; headersum = headersum; body = body; upload = upload; bytes = end }) (valuesBy (byId counts) (byId starts) end s)
+    → _≡_ {A = Header} (record { number = number; name = name; extension = extension; length = whole; created = created; modified = modified; upset = upset; kind = kind; bodysum = bodysum; headersum = headersum; body = body; upload = upload; size = end }) (valuesBy (byId counts) (byId starts) end s)
 unfolding decisionOf knownItems mandatoryItems
-made s end counts starts number name extension size created modified upset kind bodysum headersum body upload e1 e2 e3 e4 e5 e6 e7 e8 e9 e10 e11 e12 = rw (e1, e2, e3, e4, e5, e6, e7, e8, e9, e10, e11, e12)
+made s end counts starts number name extension whole created modified upset kind bodysum headersum body upload e1 e2 e3 e4 e5 e6 e7 e8 e9 e10 e11 e12 = rw (e1, e2, e3, e4, e5, e6, e7, e8, e9, e10, e11, e12)
 
 four-requires : tie.Need-four-requires
 four-requires c κs = search needs

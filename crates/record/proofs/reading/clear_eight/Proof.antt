@@ -1,13 +1,13 @@
 -- `record::reading::clear_eight` meets its contract: a full byte is clear; of another, whether the first k positions are.
 -- Assumes nothing.
-use mathlib.Core.Path.{_≡_, sym, ap, ap₂, _∙_}
-use mathlib.Core.Bool.{Bool, _&&_}
+use mathlib.Core.Path.{_≡_, sym, ap, _∙_}
+use mathlib.Core.Bool.{Bool}
 use Prim.Native.Nat.{ℕ, _-_, _≤_}
 use native.Mathlib.Omega.{arith}
 use Rattle.positions.specs.Spans.{every}
-use Rattle.positions.proofs.SpanLaws.{all-if, every-none, every-more}
+use Rattle.positions.proofs.SpanLaws.{all-if, every-none}
 use Rattle.record.specs.Inner.{clearAt}
-use Rattle.record.proofs.ReadSteps.{full-clear}
+use Rattle.record.proofs.ReadSteps.{full-clear, clear-more}
 use Rattle.record.proofs.reading.clear_eight.Statement.{statement}
 use Rattle.record.proofs.reading.clear_eight.Tie as tie
 
@@ -45,7 +45,7 @@ loop-again : tie.Need-loop-again Inv-loop μ-loop
 loop-again c =
     let b = c .before .before in
     let s = b .before .before .before in
-    (omega arith, ap₂ _&&_ (b .loop .inv .1) (c .clear-at .ensures) ∙ every-more (T s) (s .args .from) (b .loop .k))
+    (omega arith, clear-more (s .args .b) (s .args .bytes .now) (s .args .from) (b .loop .k) _ _ (b .loop .inv .1) (c .clear-at .ensures))
 
 returns-2 : tie.Need-returns-2 Inv-loop μ-loop
 returns-2 c =

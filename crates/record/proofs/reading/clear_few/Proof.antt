@@ -1,12 +1,13 @@
 -- `record::reading::clear_few` meets its contract: whether the first k positions are clear.
 -- Assumes nothing.
-use mathlib.Core.Path.{_≡_, sym, ap, ap₂, _∙_}
-use mathlib.Core.Bool.{Bool, _&&_}
+use mathlib.Core.Path.{_≡_, sym, ap, _∙_}
+use mathlib.Core.Bool.{Bool}
 use Prim.Native.Nat.{ℕ, _-_, _≤_}
 use native.Mathlib.Omega.{arith}
 use Rattle.positions.specs.Spans.{every}
 use Rattle.record.specs.Inner.{clearAt}
-use Rattle.positions.proofs.SpanLaws.{every-none, every-more}
+use Rattle.positions.proofs.SpanLaws.{every-none}
+use Rattle.record.proofs.ReadSteps.{clear-more}
 use Rattle.record.proofs.reading.clear_few.Statement.{statement}
 use Rattle.record.proofs.reading.clear_few.Tie as tie
 
@@ -38,7 +39,7 @@ loop-again : tie.Need-loop-again Inv-loop μ-loop
 loop-again c =
     let b = c .before .before in
     let s = b .before .before in
-    (omega arith, ap₂ _&&_ (b .loop .inv .1) (c .clear-at .ensures) ∙ every-more (T s) (s .args .from) (b .loop .k))
+    (omega arith, clear-more (s .args .b) (s .args .bytes .now) (s .args .from) (b .loop .k) _ _ (b .loop .inv .1) (c .clear-at .ensures))
 
 returns : tie.Need-returns Inv-loop μ-loop
 returns c =

@@ -1,21 +1,19 @@
 -- `record::writing::put_byte` meets its contract: the first k bytes are written.
 -- Assumes nothing.
-use mathlib.Core.Path.{_≡_, refl, sym, ap, _∙_}
+use mathlib.Core.Path.{_≡_, ap, _∙_}
 use mathlib.Core.List.{List}
 use Prim.Native.Nat.{ℕ, _+_, _-_, _≤_}
 use native.Mathlib.Omega.{arith}
-use lib.ListN.{length, length-set}
 use Rattle.octets.specs.Values.{valuesFrom}
 use Rattle.octets.specs.Runs.{putIn}
-use Rattle.octets.proofs.RunLaws.{put-nothing}
 use Rattle.record.specs.Inner.{byteSaved}
-use Rattle.record.proofs.PutLaws.{put-value}
+use Rattle.record.proofs.PutLaws.{SoFar, so-far-none, so-far-more}
 use Rattle.record.proofs.writing.put_byte.Statement.{statement}
 use Rattle.record.proofs.writing.put_byte.Tie as tie
 
 abbrev Inv-loop : tie.InvT-loop
 Inv-loop b buffer from end target₀ at n k₀ target k =
-    (k ≤ n) × (target ≡ putIn target₀ (at + from) (valuesFrom (byteSaved b buffer from) from k)) × (length target ≡ length target₀)
+    (k ≤ n) × SoFar (byteSaved b buffer from) target₀ (at + from) from k target
 
 abbrev μ-loop : tie.MeasureT-loop
 μ-loop b buffer from end target₀ at n k₀ target k = n - k
@@ -32,7 +30,7 @@ sub-n c = omega arith
 loop-holds : tie.Need-loop-holds Inv-loop μ-loop
 loop-holds c =
     let s = c .before .before in
-    (omega arith, sym (put-nothing (s .args .target .now) (s .args .at + s .args .from)), refl)
+    (omega arith, so-far-none (F s) (s .args .target .now) (s .args .at + s .args .from) (s .args .from))
 
 add-saved-at : tie.Need-add-saved-at Inv-loop μ-loop
 add-saved-at c = omega arith
@@ -60,9 +58,8 @@ loop-again c =
     let b = c .before .before in
     let s = b .before .before .before in (
       omega arith,
-      put-value (F s) (s .args .target .now) (s .args .at + s .args .from) (s .args .from) (b .loop .k) (b .loop .target) (b .loop .inv .1)
+      so-far-more (F s) (s .args .target .now) (s .args .at + s .args .from) (s .args .from) (b .loop .k) (b .loop .target) (b .loop .inv .1)
           (c .saved-at .result) (omega arith) (c .saved-at .ensures),
-      simp length-set (b .loop .inv .2),
     )
 
 same-length : tie.Need-same-length Inv-loop μ-loop
@@ -72,7 +69,7 @@ returns : tie.Need-returns Inv-loop μ-loop
 returns c =
     let s = c .before .before .before .before in
     let e : c .before .loop .k ≡ s .args .end - s .args .from = omega arith in
-    c .before .loop .inv .1 ∙ ap (Left s) e
+    c .before .loop .inv .1 .0 ∙ ap (Left s) e
 
 pub put-byte-spec : {M : Type 1} → statement M
 put-byte-spec =

@@ -1,22 +1,20 @@
 -- `record::writing::put_eight` meets its contract: those of a full byte are one run; of another's the first k are written.
 -- Assumes nothing.
-use mathlib.Core.Path.{_≡_, refl, sym, ap, _∙_}
+use mathlib.Core.Path.{_≡_, ap, _∙_}
 use mathlib.Core.List.{List}
 use Prim.Native.Nat.{ℕ, _+_, _-_, _≤_}
 use native.Mathlib.Omega.{arith}
-use lib.ListN.{length, length-set}
 use borrow.Author.Needs.{needs}
 use Rattle.octets.specs.Values.{valuesFrom}
 use Rattle.octets.specs.Runs.{putIn}
-use Rattle.octets.proofs.RunLaws.{put-nothing}
 use Rattle.record.specs.Inner.{byteSaved}
-use Rattle.record.proofs.PutLaws.{same-long, put-all, put-value, full-saved}
+use Rattle.record.proofs.PutLaws.{SoFar, so-far-none, so-far-more, same-long, put-all, full-saved}
 use Rattle.record.proofs.writing.put_eight.Statement.{statement}
 use Rattle.record.proofs.writing.put_eight.Tie as tie
 
 abbrev Inv-loop : tie.InvT-loop
 Inv-loop b buffer from target₀ at k₀ target k =
-    (k ≤ 8) × (target ≡ putIn target₀ (at + from) (valuesFrom (byteSaved b buffer from) from k)) × (length target ≡ length target₀)
+    (k ≤ 8) × SoFar (byteSaved b buffer from) target₀ (at + from) from k target
 
 abbrev μ-loop : tie.MeasureT-loop
 μ-loop b buffer from target₀ at k₀ target k = 8 - k
@@ -58,7 +56,7 @@ returns c = copied (c .before .before)
 loop-holds : tie.Need-loop-holds Inv-loop μ-loop
 loop-holds c =
     let s = c .before .before .before in
-    (omega arith, sym (put-nothing (s .args .target .now) (s .args .at + s .args .from)), refl)
+    (omega arith, so-far-none (F s) (s .args .target .now) (s .args .at + s .args .from) (s .args .from))
 
 add-saved-at : tie.Need-add-saved-at Inv-loop μ-loop
 add-saved-at c = omega arith
@@ -86,9 +84,8 @@ loop-again c =
     let b = c .before .before in
     let s = b .before .before .before .before in (
       omega arith,
-      put-value (F s) (s .args .target .now) (s .args .at + s .args .from) (s .args .from) (b .loop .k) (b .loop .target) (b .loop .inv .1)
+      so-far-more (F s) (s .args .target .now) (s .args .at + s .args .from) (s .args .from) (b .loop .k) (b .loop .target) (b .loop .inv .1)
           (c .saved-at .result) (omega arith) (c .saved-at .ensures),
-      simp length-set (b .loop .inv .2),
     )
 
 same-length-2 : tie.Need-same-length-2 Inv-loop μ-loop
@@ -98,7 +95,7 @@ returns-2 : tie.Need-returns-2 Inv-loop μ-loop
 returns-2 c =
     let s = c .before .before .before .before .before in
     let e : c .before .loop .k ≡ 8 = omega arith in
-    c .before .loop .inv .1 ∙ ap (Left s) e
+    c .before .loop .inv .1 .0 ∙ ap (Left s) e
 
 pub put-eight-spec : {M : Type 1} → statement M
 put-eight-spec =

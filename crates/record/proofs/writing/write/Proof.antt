@@ -4,7 +4,7 @@ use native.Mathlib.Omega.{arith}
 use borrow.Author.Needs.{needs}
 use Rattle.reception.specs.Reception.{Reception}
 use Rattle.reception.proofs.OfferLaws.{right-length}
-use Rattle.record.proofs.RecordLaws.{upToMap, pastMap, upToBytes, Written, front-put, map-put, tag-put, bytes-put}
+use Rattle.record.proofs.RecordLaws.{upToMap, pastMap, upToBuffer, Written, front-put, map-put, tag-put, bytes-put}
 use Rattle.record.proofs.writing.write.Statement.{statement}
 use Rattle.record.proofs.writing.write.Tie as tie
 
@@ -44,8 +44,8 @@ add-put c = search needs
 abbrev P : tie.After-put-map → tie.After-put
 P c = c .before .before .before .before
 
-before-bytes-requires : tie.Need-before-bytes-requires
-before-bytes-requires c κs = let s = S (P (c .before .before .before)) in right-length (s .args .l) (s .pre .0) .1
+before-buffer-requires : tie.Need-before-buffer-requires
+before-buffer-requires c κs = let s = S (P (c .before .before .before)) in right-length (s .args .l) (s .pre .0) .1
 
 slice-aggregate-put-2 : tie.Need-slice-aggregate-put-2
 slice-aggregate-put-2 c = search needs
@@ -53,11 +53,11 @@ slice-aggregate-put-2 c = search needs
 put-requires-2 : tie.Need-put-requires-2
 put-requires-2 c κs = search needs
 
-add-put-bytes : tie.Need-add-put-bytes
-add-put-bytes c = search needs
+add-put-buffer : tie.Need-add-put-buffer
+add-put-buffer c = search needs
 
-add-put-bytes-2 : tie.Need-add-put-bytes-2
-add-put-bytes-2 c = search needs
+add-put-buffer-2 : tie.Need-add-put-buffer-2
+add-put-buffer-2 c = search needs
 
 mapped : (c : tie.After-put-map) → Written (S (P c) .args .target .now) (pastMap (R (P c))) (c .put-map .last .1 .1 .0)
 mapped c =
@@ -67,16 +67,16 @@ mapped c =
 abbrev Q : tie.After-put2 → tie.After-put-map
 Q c = c .before .before .before .before .before .before
 
-tag : (c : tie.After-put2) → Written (S (P (Q c)) .args .target .now) (upToBytes (R (P (Q c)))) (c .put2 .last .0)
+tag : (c : tie.After-put2) → Written (S (P (Q c)) .args .target .now) (upToBuffer (R (P (Q c)))) (c .put2 .last .0)
 tag c =
     let s = S (P (Q c)) in
     let z = P (Q c) .before .before .before .before .map-size in
-    let b = c .before .before .before-bytes in
+    let b = c .before .before .before-buffer in
     tag-put (R (P (Q c))) (s .args .target .now) (s .pre .3) (z .result) (z .ensures) (Q c .put-map .last .1 .1 .0) (b .result) _ (c .put2 .last .0)
     (mapped (Q c)) (b .ensures) (c .put2 .ensures)
 
-put-bytes-requires : tie.Need-put-bytes-requires
-put-bytes-requires c κs =
+put-buffer-requires : tie.Need-put-buffer-requires
+put-buffer-requires c κs =
     let q = c .before .before .before in
     let s = S (P (Q q)) in
     let w = tag q .1 in
@@ -91,7 +91,7 @@ returns c =
     let q = c .before .before .before .before .before .before in
     let s = S (P (Q q)) in
     let z = P (Q q) .before .before .before .before .map-size in
-    bytes-put (R (P (Q q))) (s .args .target .now) (s .pre .3) (z .result) (z .ensures) (q .put2 .last .0) _ (tag q) (c .before .before .put-bytes .ensures)
+    bytes-put (R (P (Q q))) (s .args .target .now) (s .pre .3) (z .result) (z .ensures) (q .put2 .last .0) _ (tag q) (c .before .before .put-buffer .ensures)
 
 pub write-spec : {M : Type 1} → statement M
 write-spec =
@@ -103,11 +103,11 @@ write-spec =
     put-requires
     put-map-requires
     add-put
-    before-bytes-requires
+    before-buffer-requires
     slice-aggregate-put-2
     put-requires-2
-    add-put-bytes
-    add-put-bytes-2
-    put-bytes-requires
+    add-put-buffer
+    add-put-buffer-2
+    put-buffer-requires
     same-length
     returns)

@@ -7,7 +7,7 @@ use native.Mathlib.Omega.{arith}
 use borrow.Author.Needs.{needs}
 use lib.ListN.{length}
 use Rattle.reception.specs.Held.{heldCount}
-use Rattle.reception.specs.EveryHole.{listedFrom}
+use Rattle.holes.specs.EveryHole.{listedFrom}
 use Rattle.report.specs.Text.{fileLine, holeLines}
 use Rattle.report.proofs.Writes.{Written, room-front, room-behind, written-next}
 use Rattle.report.proofs.TextLaws.{fits}

@@ -9,12 +9,12 @@ use lib.ListN.{length, length-append}
 use Rattle.octets.specs.Runs.{putIn}
 use Rattle.octets.proofs.RunLaws.{put-length, put-put, put-nothing}
 use Rattle.reason.specs.Answer.{accepted}
-use Rattle.reception.specs.declared.Hole.{Hole}
-use Rattle.reception.specs.Listing.{listing, listedAnswer}
-use Rattle.reception.specs.EveryHole.{endOf, listedFrom}
+use Rattle.holes.specs.declared.Hole.{Hole}
+use Rattle.holes.specs.Listing.{listing, listedAnswer}
+use Rattle.holes.specs.EveryHole.{endOf, listedFrom}
 use Rattle.report.specs.Text.{holeLine, holeLines}
 use Rattle.report.proofs.Writes.{Written}
-use Rattle.reception.proofs.ListedLaws.{listed-bounds, listed-none, listed-beyond, listed-next}
+use Rattle.holes.proofs.ListedLaws.{listed-bounds, listed-none, listed-beyond, listed-next}
 use Rattle.report.proofs.lines.hole_lines.Statement.{statement}
 use Rattle.report.proofs.lines.hole_lines.Tie as tie
 

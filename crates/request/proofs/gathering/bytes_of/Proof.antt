@@ -1,8 +1,8 @@
--- `request::holes::bytes_of` meets its contract: the bytes of both numbers, one after the other.
+-- `request::gathering::bytes_of` meets its contract: the bytes of both numbers, one after the other.
 -- Assumes nothing.
 use borrow.Author.Needs.{needs}
-use Rattle.request.proofs.holes.bytes_of.Statement.{statement}
-use Rattle.request.proofs.holes.bytes_of.Tie as tie
+use Rattle.request.proofs.gathering.bytes_of.Statement.{statement}
+use Rattle.request.proofs.gathering.bytes_of.Tie as tie
 use mathlib.Core.Path.{ap₂}
 use mathlib.Core.List.{List, [], _∷_}
 use Prim.Native.Nat.{ℕ}

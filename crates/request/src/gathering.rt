@@ -1,8 +1,8 @@
 // The holes of a request, listed one after the other and written as bytes.
 use super::BYTES_PER_HOLE;
 use super::MOST_HOLES;
-use reception::Hole;
-use reception::Listed;
+use holes::Hole;
+use holes::Listed;
 ghost use mathlib.Core.Path.{_≡_};
 ghost use Prim.Native.Nat.{_*_, _≤_, _<_};
 ghost use lib.ListN.{length};
@@ -36,7 +36,7 @@ pub(crate) fn gather(l: u32, map: &[u8], place: u32, entries: &mut [u8]) -> Gath
     let mut count = 0;
     let mut end = place;
     while count < MOST_HOLES {
-        let next = reception::list(l, map, end);
+        let next = holes::list(l, map, end);
         match next {
             Listed::Accepted(hole) => {
                 octets::put(entries, (count as usize) * BYTES_PER_HOLE, &bytes_of(hole));

@@ -1,7 +1,7 @@
--- `request::holes::gather` meets its contract: what is listed so far, with what is left, is the whole.
+-- `request::gathering::gather` meets its contract: what is listed so far, with what is left, is the whole.
 -- Assumes nothing.
-use Rattle.request.proofs.holes.gather.Statement.{statement}
-use Rattle.request.proofs.holes.gather.Tie as tie
+use Rattle.request.proofs.gathering.gather.Statement.{statement}
+use Rattle.request.proofs.gathering.gather.Tie as tie
 use mathlib.Core.Path.{_≡_, sym, ap, _∙_}
 use Prim.Native.Nat.{_-_, _≤_}
 use native.Mathlib.Omega.{arith}
@@ -9,9 +9,9 @@ use denote.Ref.{now}
 use borrow.Author.Needs.{needs}
 use Rattle.reason.specs.Answer.{accepted}
 use Rattle.reception.specs.Reception.{longest}
-use Rattle.reception.specs.EveryHole.{endOf}
-use Rattle.reception.specs.Listing.{listing, listedAnswer}
-use Rattle.reception.proofs.ListedLaws.{listed-within}
+use Rattle.holes.specs.EveryHole.{endOf}
+use Rattle.holes.specs.Listing.{listing, listedAnswer}
+use Rattle.holes.proofs.ListedLaws.{listed-within}
 use Rattle.request.specs.Request.{mostHoles}
 use Rattle.request.proofs.GatheringLaws.{SoFar, at-first, one-more, no-more, all-listed}
 

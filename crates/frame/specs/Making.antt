@@ -11,7 +11,7 @@ use Rattle.remainder.specs.Check.{withCheck}
 use Rattle.ax25.specs.Address.{isWritable}
 use Rattle.ax25.specs.Head.{headBytes}
 use Rattle.frame.specs.declared.Piece.{Piece}
-use Rattle.ax25.specs.Information.{file}
+use Rattle.ax25.specs.Information.{fileProtocol}
 use Rattle.frame.specs.Piece.{pieceFlags}
 
 -- the nine header bytes: flags, number (4), type (1), offset (3)
@@ -24,11 +24,11 @@ pieceInformation p bytes = withCheck (pieceBefore p ++ bytes)
 
 -- the whole frame
 abbrev pub pieceFrame : Piece → List ℕ → List ℕ
-pieceFrame p bytes = headBytes (p .head .destination) (p .head .source) file ++ pieceInformation p bytes
+pieceFrame p bytes = headBytes (p .head .destination) (p .head .source) fileProtocol ++ pieceInformation p bytes
 
 -- a piece that can be made: both addresses can be written, number, type and offset fit their bytes, and there are 1 to 244 bytes
 -- of data
-pub record Makeable (p : Piece) (bytes : List ℕ) : Type 0 where
+pub record MakeablePiece (p : Piece) (bytes : List ℕ) : Type 0 where
   pub destination : isWritable (p .head .destination) ≡ true
   pub source : isWritable (p .head .source) ≡ true
   pub number : p .number < 256 ^ 4

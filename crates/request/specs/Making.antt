@@ -8,12 +8,12 @@ use Prim.Native.Nat.{ℕ, _^_, _<_}
 use lib.ListN.{length}
 use Rattle.ax25.specs.declared.Head.{Head}
 use Rattle.ax25.specs.Address.{isWritable}
-use Rattle.reception.specs.declared.Hole.{Hole}
+use Rattle.holes.specs.declared.Hole.{Hole}
 use Rattle.request.specs.declared.Asks.{Asks}
 use Rattle.request.specs.Request.{holesOfKind, holesRight}
 
 -- both addresses can be written, the number fits its bytes, there are as many holes as there may be, and they are right
-pub record Makeable (head : Head) (asks : Asks) (number : ℕ) (holes : List Hole) : Type 0 where
+pub record MakeableRequest (head : Head) (asks : Asks) (number : ℕ) (holes : List Hole) : Type 0 where
   pub destination : isWritable (head .destination) ≡ true
   pub source : isWritable (head .source) ≡ true
   pub number-fits : number < 256 ^ 4

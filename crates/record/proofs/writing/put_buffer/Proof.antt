@@ -1,4 +1,4 @@
--- `record::writing::put_bytes` meets its contract: the bytes of the map bytes so far are written, and those of the last one behind them.
+-- `record::writing::put_buffer` meets its contract: the bytes of the map bytes so far are written, and those of the last one behind them.
 -- Assumes nothing.
 use mathlib.Core.Path.{_≡_, sym, ap, _∙_}
 use mathlib.Core.Bool.{cond}
@@ -11,9 +11,9 @@ use Rattle.octets.specs.Values.{valuesFrom}
 use Rattle.octets.specs.Runs.{putIn}
 use Rattle.octets.proofs.RunLaws.{put-nothing}
 use Rattle.positions.specs.Map.{held}
-use Rattle.record.proofs.PutLaws.{same-long, put-run-more, saved-byte}
-use Rattle.record.proofs.writing.put_bytes.Statement.{statement}
-use Rattle.record.proofs.writing.put_bytes.Tie as tie
+use Rattle.record.proofs.PutLaws.{same-long, saved-run-more}
+use Rattle.record.proofs.writing.put_buffer.Statement.{statement}
+use Rattle.record.proofs.writing.put_buffer.Tie as tie
 
 abbrev Inv-loop : tie.InvT-loop
 Inv-loop map buffer l target₀ at p₀ target p =
@@ -58,14 +58,11 @@ loop-again : tie.Need-loop-again Inv-loop μ-loop
 loop-again c =
     let d = c .before .before in
     let l = d .before .before .before .before in
-    let s = S l in
-    let p = l .loop .p in (
+    let s = S l in (
       omega arith,
       omega arith,
-      put-run-more (F s) (s .args .target .now) (s .args .at) p (l .loop .target) (l .loop .inv .2) 8 _ (omega arith)
-          (d .put-eight .ensures
-          ∙ ap (putIn (l .loop .target) (s .args .at + p))
-          (saved-byte (s .args .map .now) (s .args .buffer .now) p 8 (l .loop .inv .1) (omega arith))),
+      saved-run-more (s .args .map .now) (s .args .buffer .now) (s .args .target .now) (s .args .at) (l .loop .p) (l .loop .target) (l .loop .inv .2)
+          (l .loop .inv .1) 8 (omega arith) (omega arith) _ (d .put-eight .ensures),
     )
 
 shared-slice-read-put-byte : tie.Need-shared-slice-read-put-byte Inv-loop μ-loop
@@ -82,9 +79,8 @@ last c =
     let p = l .loop .p in
     let n = s .args .l - p in
     let e : p + n ≡ s .args .l = omega arith in
-    put-run-more (F s) (s .args .target .now) (s .args .at) p (l .loop .target) (l .loop .inv .2) n (c .put-byte .last .1 .1 .1 .1 .0) (omega arith)
-    (c .put-byte .ensures
-    ∙ ap (putIn (l .loop .target) (s .args .at + p)) (saved-byte (s .args .map .now) (s .args .buffer .now) p n (l .loop .inv .1) (omega arith)))
+    saved-run-more (s .args .map .now) (s .args .buffer .now) (s .args .target .now) (s .args .at) p (l .loop .target) (l .loop .inv .2)
+    (l .loop .inv .1) n (omega arith) (omega arith) (c .put-byte .last .1 .1 .1 .1 .0) (c .put-byte .ensures)
     ∙ ap (Left s) e
 
 same-length : tie.Need-same-length Inv-loop μ-loop
@@ -105,8 +101,8 @@ returns-2 c =
     let e : l .loop .p ≡ S l .args .l = omega arith in
     l .loop .inv .2 ∙ ap (Left (S l)) e
 
-pub put-bytes-spec : {M : Type 1} → statement M
-put-bytes-spec =
+pub put-buffer-spec : {M : Type 1} → statement M
+put-buffer-spec =
     tie.close
     (tie.spec
     Inv-loop
