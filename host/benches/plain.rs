@@ -166,7 +166,7 @@ pub fn load(saved: &[u8], map: &mut [u8], buffer: &mut [u8], number: &mut u32, l
 
 /// Writes a request for the holes from a place on, at most 49. Refuses 2, 7, 12 (map), 15, 12 (target).
 #[inline(never)]
-pub fn write_request(
+pub fn write_fill(
     wanted: Wanted<'_>,
     place: u32,
     target: &mut [u8],
@@ -606,7 +606,7 @@ fn read_header(header: &[u8], number: u32) -> Option<HeaderTold> {
             (0x01, 4) => file_number = number4(data),
             (0x02, 8) => told.name = u64::from_le_bytes(data.try_into().expect("eight bytes")),
             (0x03, 3) => told.extension = u32::from_le_bytes([data[0], data[1], data[2], 0]),
-            (0x04, 4) => told.size = number4(data),
+            (0x04, 4) => told.length = number4(data),
             (0x05, 4) => told.created = number4(data),
             (0x06, 4) => told.modified = number4(data),
             (0x07, 1) => told.upset = data[0],
@@ -636,6 +636,6 @@ fn read_header(header: &[u8], number: u32) -> Option<HeaderTold> {
         && all.wrapping_sub(own) == told.headersum
         && file_number == number
         && usize::from(told.body) >= header.len()
-        && u32::from(told.body) <= told.size;
+        && u32::from(told.body) <= told.length;
     right.then_some(told)
 }

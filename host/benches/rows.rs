@@ -145,7 +145,7 @@ impl Operation for Request {
                 length: space.length,
                 map: &space.map,
             };
-            let answer = S::write_request(wanted, place, &mut space.target, &mut count, &mut end);
+            let answer = S::write_fill(wanted, place, &mut space.target, &mut count, &mut end);
             tell(number_of(answer));
             if answer.is_err() {
                 return;
@@ -191,7 +191,7 @@ impl Operation for Entry {
         let mut header = HeaderTold::default();
         tell(number_of(S::entry(black_box(&space.frames[0][..]), &mut told, &mut header)));
         let fields = [told.destination, told.source, told.start as u64, told.size as u64, header.name];
-        let numbers = [told.number, told.offset, told.old, told.new, header.extension, header.size];
+        let numbers = [told.number, told.offset, told.old, told.new, header.extension, header.length];
         let times = [header.created, header.modified, header.upload];
         let sums = [header.bodysum, header.headersum, header.body];
         let bytes = [told.flags, header.upset, header.kind, header.uploaded];

@@ -41,7 +41,7 @@ pub trait Side {
     /// Loads a record.
     fn load(saved: &[u8], map: &mut [u8], buffer: &mut [u8], number: &mut u32, length: &mut u32) -> Result<(), Reason>;
     /// Writes a request for the holes from a place on.
-    fn write_request(
+    fn write_fill(
         wanted: Wanted<'_>,
         place: u32,
         target: &mut [u8],
@@ -110,14 +110,14 @@ macro_rules! side {
             ) -> Result<(), Reason> {
                 $module::load(saved, map, buffer, number, length)
             }
-            fn write_request(
+            fn write_fill(
                 wanted: Wanted<'_>,
                 place: u32,
                 target: &mut [u8],
                 count: &mut u32,
                 end: &mut u32,
             ) -> Result<(), Reason> {
-                $module::write_request(wanted, place, target, count, end)
+                $module::write_fill(wanted, place, target, count, end)
             }
             fn entry(frame: &[u8], told: &mut EntryTold, header: &mut HeaderTold) -> Result<(), Reason> {
                 $module::entry(frame, told, header)

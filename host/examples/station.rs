@@ -16,7 +16,7 @@ fn main() -> Result<(), Box<dyn std::error::Error>> {
     let mut frames = std::env::args_os().skip(1).map(std::fs::read);
     let entry = frames.next().ok_or("a directory entry and frames are wanted")??;
     let entry = Entry::read(&entry)?;
-    let mut reception = Reception::open(entry.number, entry.header.size)?;
+    let mut reception = Reception::open(entry.number, entry.header.length)?;
     for frame in frames {
         hear(&mut reception, &frame?);
     }

@@ -63,18 +63,8 @@ extern "C" {
         number: &mut u32,
         length: &mut u32,
     ) -> u8;
-    fn station_piece(
-        frame: *const u8,
-        frame_size: usize,
-        destination: &mut u64,
-        source: &mut u64,
-        number: &mut u32,
-        kind: &mut u8,
-        offset: &mut u32,
-        start: &mut usize,
-        size: &mut usize,
-    ) -> u8;
-    fn station_write_request(
+    fn station_piece(frame: *const u8, frame_size: usize, told: &mut [u64; 7]) -> u8;
+    fn station_write_fill(
         destination: u64,
         source: u64,
         number: u32,
@@ -88,59 +78,11 @@ extern "C" {
         end: &mut u32,
     ) -> u8;
     fn station_write_start(destination: u64, source: u64, number: u32, target: *mut u8, target_size: usize) -> u8;
-    fn station_read_request(
-        frame: *const u8,
-        frame_size: usize,
-        destination: &mut u64,
-        source: &mut u64,
-        flags: &mut u8,
-        number: &mut u32,
-        count: &mut u32,
-    ) -> u8;
+    fn station_read_request(frame: *const u8, frame_size: usize, told: &mut [u64; 5]) -> u8;
     fn station_hole(frame: *const u8, frame_size: usize, index: u32, start: &mut u32, size: &mut u32) -> u8;
-    fn station_entry(
-        frame: *const u8,
-        frame_size: usize,
-        destination: &mut u64,
-        source: &mut u64,
-        flags: &mut u8,
-        number: &mut u32,
-        offset: &mut u32,
-        old: &mut u32,
-        new: &mut u32,
-        start: &mut usize,
-        size: &mut usize,
-        name: &mut u64,
-        extension: &mut u32,
-        whole: &mut u32,
-        created: &mut u32,
-        modified: &mut u32,
-        upset: &mut u8,
-        kind: &mut u8,
-        bodysum: &mut u16,
-        headersum: &mut u16,
-        body: &mut u16,
-        uploaded: &mut u8,
-        upload: &mut u32,
-    ) -> u8;
-    fn station_header(
-        bytes: *const u8,
-        bytes_size: usize,
-        number: u32,
-        length: &mut usize,
-        name: &mut u64,
-        extension: &mut u32,
-        whole: &mut u32,
-        created: &mut u32,
-        modified: &mut u32,
-        upset: &mut u8,
-        kind: &mut u8,
-        bodysum: &mut u16,
-        headersum: &mut u16,
-        body: &mut u16,
-        uploaded: &mut u8,
-        upload: &mut u32,
-    ) -> u8;
+    fn station_entry(frame: *const u8, frame_size: usize, told: &mut [u64; 9], values: &mut [u64; 12]) -> u8;
+    fn station_header(bytes: *const u8, bytes_size: usize, number: u32, size: &mut usize, values: &mut [u64; 12])
+        -> u8;
     fn station_is_held(length: u32, map: *const u8, map_size: usize, position: u32) -> bool;
     fn station_count_held(length: u32, map: *const u8, map_size: usize) -> u32;
     fn station_remainder(bytes: *const u8, bytes_size: usize) -> u16;
@@ -150,6 +92,31 @@ extern "C" {
 // and its size are a slice's, which each is here; that what is lent to be changed overlaps with nothing else lent, which
 // Rust's borrows make sure of; and they keep no pointer, do not unwind, and return a bool as 0 or 1. That the
 // declarations are those of the library is compared by `tests/declarations.rs`.
+
+// What is told as an array of numbers: a struct whose fields stand in the array's order. Each number is a field's own
+// value, so that no cast loses anything.
+macro_rules! told {
+    ($(#[$said:meta])* $told:ident of $count:literal { $($(#[$is:meta])* $field:ident: $kind:ty,)* }) => {
+        $(#[$said])*
+        #[derive(Clone, Copy, Debug, Default, PartialEq, Eq)]
+        pub struct $told {
+            $($(#[$is])* pub $field: $kind,)*
+        }
+
+        impl $told {
+            // the array that is lent
+            fn lent(self) -> [u64; $count] {
+                [$(self.$field as u64),*]
+            }
+
+            // what is left in it
+            fn left(numbers: [u64; $count]) -> $told {
+                let [$($field),*] = numbers;
+                $told { $($field: $field as $kind),* }
+            }
+        }
+    };
+}
 
 /// Opens a reception: clears ceil(length/8) bytes of the map and length bytes of the buffer.
 ///
@@ -290,23 +257,24 @@ pub fn load(saved: &[u8], map: &mut [u8], buffer: &mut [u8], number: &mut u32, l
     })
 }
 
-/// What [`piece`] tells.
-#[derive(Clone, Copy, Debug, Default, PartialEq, Eq)]
-pub struct PieceTold {
-    /// To whom the frame goes.
-    pub destination: u64,
-    /// Who sent it.
-    pub source: u64,
-    /// The file's number.
-    pub number: u32,
-    /// The file's type.
-    pub kind: u8,
-    /// The position of the piece's first byte in the file.
-    pub offset: u32,
-    /// Where the piece's bytes start in the frame.
-    pub start: usize,
-    /// How many they are.
-    pub size: usize,
+told! {
+    /// What [`piece`] tells.
+    PieceTold of 7 {
+        /// To whom the frame goes.
+        destination: u64,
+        /// Who sent it.
+        source: u64,
+        /// The file's number.
+        number: u32,
+        /// The file's type.
+        kind: u8,
+        /// The position of the piece's first byte in the file.
+        offset: u32,
+        /// Where the piece's bytes start in the frame.
+        start: usize,
+        /// How many they are.
+        size: usize,
+    }
 }
 
 /// Reads a frame as a file piece.
@@ -315,19 +283,10 @@ pub struct PieceTold {
 ///
 /// Refuses 1, 2, 3, 4, 7, 1, 6, 5, 7.
 pub fn piece(frame: &[u8], told: &mut PieceTold) -> Result<(), Reason> {
-    answer(unsafe {
-        station_piece(
-            frame.as_ptr(),
-            frame.len(),
-            &mut told.destination,
-            &mut told.source,
-            &mut told.number,
-            &mut told.kind,
-            &mut told.offset,
-            &mut told.start,
-            &mut told.size,
-        )
-    })
+    let mut numbers = told.lent();
+    let returned = unsafe { station_piece(frame.as_ptr(), frame.len(), &mut numbers) };
+    *told = PieceTold::left(numbers);
+    answer(returned)
 }
 
 /// What a request asks for, and of whom.
@@ -351,7 +310,7 @@ pub struct Wanted<'a> {
 /// # Errors
 ///
 /// Refuses 2, 7, 12 (map), 15, 12 (target).
-pub fn write_request(
+pub fn write_fill(
     wanted: Wanted<'_>,
     place: u32,
     target: &mut [u8],
@@ -359,7 +318,7 @@ pub fn write_request(
     end: &mut u32,
 ) -> Result<(), Reason> {
     answer(unsafe {
-        station_write_request(
+        station_write_fill(
             wanted.destination,
             wanted.source,
             wanted.number,
@@ -384,19 +343,20 @@ pub fn write_start(destination: u64, source: u64, number: u32, target: &mut [u8]
     answer(unsafe { station_write_start(destination, source, number, target.as_mut_ptr(), target.len()) })
 }
 
-/// What [`read_request`] tells.
-#[derive(Clone, Copy, Debug, Default, PartialEq, Eq)]
-pub struct RequestTold {
-    /// To whom the frame goes.
-    pub destination: u64,
-    /// Who sent it.
-    pub source: u64,
-    /// 0x10 for the start of a file, 0x11 for holes.
-    pub flags: u8,
-    /// The file's number.
-    pub number: u32,
-    /// How many holes it lists.
-    pub count: u32,
+told! {
+    /// What [`read_request`] tells.
+    RequestTold of 5 {
+        /// To whom the frame goes.
+        destination: u64,
+        /// Who sent it.
+        source: u64,
+        /// 0x10 for the start of a file, 0x11 for holes.
+        flags: u8,
+        /// The file's number.
+        number: u32,
+        /// How many holes it lists.
+        count: u32,
+    }
 }
 
 /// Reads a frame as a request.
@@ -405,17 +365,10 @@ pub struct RequestTold {
 ///
 /// Refuses 1, 2, 3, 4, 7, 1, 5, 7, 10.
 pub fn read_request(frame: &[u8], told: &mut RequestTold) -> Result<(), Reason> {
-    answer(unsafe {
-        station_read_request(
-            frame.as_ptr(),
-            frame.len(),
-            &mut told.destination,
-            &mut told.source,
-            &mut told.flags,
-            &mut told.number,
-            &mut told.count,
-        )
-    })
+    let mut numbers = told.lent();
+    let returned = unsafe { station_read_request(frame.as_ptr(), frame.len(), &mut numbers) };
+    *told = RequestTold::left(numbers);
+    answer(returned)
 }
 
 /// Tells start and size of the hole with an index, from 0, in a request frame; both 0 beyond its count.
@@ -427,56 +380,58 @@ pub fn hole(frame: &[u8], index: u32, start: &mut u32, size: &mut u32) -> Result
     answer(unsafe { station_hole(frame.as_ptr(), frame.len(), index, start, size) })
 }
 
-/// What [`entry`] tells.
-#[derive(Clone, Copy, Debug, Default, PartialEq, Eq)]
-pub struct EntryTold {
-    /// To whom the frame goes.
-    pub destination: u64,
-    /// Who sent it.
-    pub source: u64,
-    /// The flags: bit 5 is set, bit 6 is free.
-    pub flags: u8,
-    /// The file's number.
-    pub number: u32,
-    /// The offset, which is 0.
-    pub offset: u32,
-    /// Time old.
-    pub old: u32,
-    /// Time new.
-    pub new: u32,
-    /// Where the file header starts in the frame.
-    pub start: usize,
-    /// How many bytes it has.
-    pub size: usize,
+told! {
+    /// What [`entry`] tells.
+    EntryTold of 9 {
+        /// To whom the frame goes.
+        destination: u64,
+        /// Who sent it.
+        source: u64,
+        /// The flags: bit 5 is set, bit 6 is free.
+        flags: u8,
+        /// The file's number.
+        number: u32,
+        /// The offset, which is 0.
+        offset: u32,
+        /// Time old.
+        old: u32,
+        /// Time new.
+        new: u32,
+        /// Where the file header starts in the frame.
+        start: usize,
+        /// How many bytes it has.
+        size: usize,
+    }
 }
 
-/// What [`entry`] tells beside, and [`header`] too: the values of the file header's items.
-#[derive(Clone, Copy, Debug, Default, PartialEq, Eq)]
-pub struct HeaderTold {
-    /// Item 02: the eight bytes of the name, least significant byte first.
-    pub name: u64,
-    /// Item 03: the three bytes of the extension, least significant byte first.
-    pub extension: u32,
-    /// Item 04: the whole file's length.
-    pub size: u32,
-    /// Item 05: when the file was made.
-    pub created: u32,
-    /// Item 06: when it was last changed.
-    pub modified: u32,
-    /// Item 07: upsets seen.
-    pub upset: u8,
-    /// Item 08: the file's type.
-    pub kind: u8,
-    /// Item 09: the body's sum.
-    pub bodysum: u16,
-    /// Item 0A: the header's sum.
-    pub headersum: u16,
-    /// Item 0B: where the body starts in the file.
-    pub body: u16,
-    /// 1 where item 12 is there, 0 where not.
-    pub uploaded: u8,
-    /// Item 12: when the file was uploaded; 0 where there is none.
-    pub upload: u32,
+told! {
+    /// What [`entry`] tells beside, and [`header`] too: the values of the file header's items.
+    HeaderTold of 12 {
+        /// Item 02: the eight bytes of the name, least significant byte first.
+        name: u64,
+        /// Item 03: the three bytes of the extension, least significant byte first.
+        extension: u32,
+        /// Item 04: the whole file's length.
+        length: u32,
+        /// Item 05: when the file was made.
+        created: u32,
+        /// Item 06: when it was last changed.
+        modified: u32,
+        /// Item 07: upsets seen.
+        upset: u8,
+        /// Item 08: the file's type.
+        kind: u8,
+        /// Item 09: the body's sum.
+        bodysum: u16,
+        /// Item 0A: the header's sum.
+        headersum: u16,
+        /// Item 0B: where the body starts in the file.
+        body: u16,
+        /// 1 where item 12 is there, 0 where not.
+        uploaded: u8,
+        /// Item 12: when the file was uploaded; 0 where there is none.
+        upload: u32,
+    }
 }
 
 /// Reads a frame as a directory entry, and the file header in it.
@@ -485,33 +440,11 @@ pub struct HeaderTold {
 ///
 /// Refuses 1, 2, 3, 4, 7, 1, 6, 5, 14, 8.
 pub fn entry(frame: &[u8], told: &mut EntryTold, header: &mut HeaderTold) -> Result<(), Reason> {
-    answer(unsafe {
-        station_entry(
-            frame.as_ptr(),
-            frame.len(),
-            &mut told.destination,
-            &mut told.source,
-            &mut told.flags,
-            &mut told.number,
-            &mut told.offset,
-            &mut told.old,
-            &mut told.new,
-            &mut told.start,
-            &mut told.size,
-            &mut header.name,
-            &mut header.extension,
-            &mut header.size,
-            &mut header.created,
-            &mut header.modified,
-            &mut header.upset,
-            &mut header.kind,
-            &mut header.bodysum,
-            &mut header.headersum,
-            &mut header.body,
-            &mut header.uploaded,
-            &mut header.upload,
-        )
-    })
+    let (mut numbers, mut values) = (told.lent(), header.lent());
+    let returned = unsafe { station_entry(frame.as_ptr(), frame.len(), &mut numbers, &mut values) };
+    *told = EntryTold::left(numbers);
+    *header = HeaderTold::left(values);
+    answer(returned)
 }
 
 /// Reads the file header that the bytes start with, of the file with the number, and tells how many bytes the
@@ -520,27 +453,11 @@ pub fn entry(frame: &[u8], told: &mut EntryTold, header: &mut HeaderTold) -> Res
 /// # Errors
 ///
 /// Refuses 8.
-pub fn header(bytes: &[u8], number: u32, length: &mut usize, told: &mut HeaderTold) -> Result<(), Reason> {
-    answer(unsafe {
-        station_header(
-            bytes.as_ptr(),
-            bytes.len(),
-            number,
-            length,
-            &mut told.name,
-            &mut told.extension,
-            &mut told.size,
-            &mut told.created,
-            &mut told.modified,
-            &mut told.upset,
-            &mut told.kind,
-            &mut told.bodysum,
-            &mut told.headersum,
-            &mut told.body,
-            &mut told.uploaded,
-            &mut told.upload,
-        )
-    })
+pub fn header(bytes: &[u8], number: u32, size: &mut usize, told: &mut HeaderTold) -> Result<(), Reason> {
+    let mut values = told.lent();
+    let returned = unsafe { station_header(bytes.as_ptr(), bytes.len(), number, size, &mut values) };
+    *told = HeaderTold::left(values);
+    answer(returned)
 }
 
 /// Whether a position is held: never at the length or beyond, nor where the map has no such position.

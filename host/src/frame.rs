@@ -65,9 +65,9 @@ impl<'a> Piece<'a> {
 /// // a sample of this package: the directory entry of a made-up file
 /// let frame = include_bytes!(concat!(env!("CARGO_MANIFEST_DIR"), "/samples/survey/entry.frame"));
 /// let entry = Entry::read(frame)?;
-/// assert_eq!((entry.number, entry.header.size), (1201, 2358));
+/// assert_eq!((entry.number, entry.header.length), (1201, 2358));
 /// assert_eq!(&entry.header.name, b"SURVEY  ");
-/// let reception = Reception::open(entry.number, entry.header.size)?;
+/// let reception = Reception::open(entry.number, entry.header.length)?;
 /// assert_eq!(reception.held(), 0);
 /// # Ok::<(), Reason>(())
 /// ```
@@ -123,13 +123,13 @@ impl<'a> Entry<'a> {
 #[derive(Clone, Copy, Debug, PartialEq, Eq)]
 pub struct Header {
     /// How many bytes the header itself has, from AA 55 to the end item.
-    pub length: usize,
+    pub size: usize,
     /// Item 02: the name.
     pub name: [u8; 8],
     /// Item 03: the extension.
     pub extension: [u8; 3],
     /// Item 04: the whole file's length, with its header.
-    pub size: u32,
+    pub length: u32,
     /// Item 05: when the file was made.
     pub created: u32,
     /// Item 06: when it was last changed.
@@ -162,8 +162,8 @@ impl Header {
     /// assert_eq!(piece.offset, 0);
     ///
     /// let header = Header::read(piece.bytes, piece.number)?;
-    /// assert_eq!((header.length, header.size), (80, 2358));
-    /// assert!(piece.bytes[header.length..].starts_with(b"Lake survey"));
+    /// assert_eq!((header.size, header.length), (80, 2358));
+    /// assert!(piece.bytes[header.size..].starts_with(b"Lake survey"));
     ///
     /// // not whole, and another file's
     /// assert_eq!(Header::read(&piece.bytes[..79], piece.number), Err(Reason::Header));
@@ -177,20 +177,20 @@ impl Header {
     /// item is missing, repeated or of another length; its sum differs, its number is another, or the body starts
     /// inside it or beyond the file.
     pub fn read(bytes: &[u8], number: u32) -> Result<Header, Reason> {
-        let mut length = 0;
+        let mut size = 0;
         let mut told = boundary::HeaderTold::default();
-        boundary::header(bytes, number, &mut length, &mut told)?;
-        Ok(Header::told(told, length))
+        boundary::header(bytes, number, &mut size, &mut told)?;
+        Ok(Header::told(told, size))
     }
 
     // The header that the library told, and how many bytes it has.
-    fn told(told: boundary::HeaderTold, length: usize) -> Header {
+    fn told(told: boundary::HeaderTold, size: usize) -> Header {
         let [a, b, c, _] = told.extension.to_le_bytes();
         Header {
-            length,
+            size,
             name: told.name.to_le_bytes(),
             extension: [a, b, c],
-            size: told.size,
+            length: told.length,
             created: told.created,
             modified: told.modified,
             upset: told.upset,

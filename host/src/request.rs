@@ -42,7 +42,7 @@ impl Iterator for Requests<'_> {
         let mut frame = vec![0; HEAD + HOLE * MOST];
         let mut count = 0;
         // 15, the one reason that is left here, means that there is no hole left
-        boundary::write_request(self.wanted, self.place, &mut frame, &mut count, &mut self.place).ok()?;
+        boundary::write_fill(self.wanted, self.place, &mut frame, &mut count, &mut self.place).ok()?;
         frame.truncate(HEAD + HOLE * count as usize);
         Some(frame)
     }

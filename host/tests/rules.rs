@@ -25,10 +25,11 @@ const SECTIONS: [&str; 11] = [
 
 /// Files of `specs/` that need not stand on the page: private functions promise each other what is there, and no promise
 /// of a public function cites it.
-const PRIVATE: [&str; 5] = [
+const PRIVATE: [&str; 6] = [
     "remainder/specs/Inner.antt",
+    "positions/specs/Inner.antt",
     "header/specs/Notes.antt",
-    "reception/specs/Inner.antt",
+    "runs/specs/Inner.antt",
     "request/specs/Inner.antt",
     "record/specs/Inner.antt",
 ];
@@ -349,7 +350,7 @@ fn small() -> Sources {
     let sources = [
         ("ax25/specs/Address.antt", ADDRESS),
         ("ax25/specs/Lib.antt", "pub mod Address\n"),
-        ("reception/specs/Inner.antt", "abbrev pub onSide : Bool\n"),
+        ("runs/specs/Inner.antt", "abbrev pub onSide : Bool\n"),
         ("ax25/src/lib.rt", "// fn unsaid\npub const FILE: u8 = 0xBB;\npub extern \"C\" fn read(s: &[u8]) -> u8\n"),
         ("ax25/must-fail/lower_case.edit", ""),
         ("cases/stdin", "Opening\nopen L 0:l0=7\n"),

@@ -40,7 +40,7 @@ fn two_stations_have_the_file_together() {
     let made: BTreeMap<String, Vec<u8>> = made::samples().into_iter().collect();
     let entry = Entry::read(&made["survey/entry.frame"]).expect("a directory entry");
     let station = |name: &str| {
-        let mut reception = Reception::open(entry.number, entry.header.size).expect("a length in range");
+        let mut reception = Reception::open(entry.number, entry.header.length).expect("a length in range");
         for (_, frame) in made.iter().filter(|(file, _)| file.starts_with(name)) {
             let _ = reception.take(frame);
         }
@@ -59,5 +59,5 @@ fn the_file_begins_with_the_header_of_its_entry() {
     let piece = Piece::read(&made["survey/first/01.frame"]).expect("a piece");
     assert_eq!(piece.offset, 0);
     assert!(piece.bytes.starts_with(entry.bytes));
-    assert_eq!(entry.header.size as usize, made["survey/whole.file"].len());
+    assert_eq!(entry.header.length as usize, made["survey/whole.file"].len());
 }

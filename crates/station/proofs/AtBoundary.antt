@@ -4,9 +4,9 @@ use mathlib.Core.Path.{_≡_, refl, sym, ap, _∙_}
 use mathlib.Core.Bool.{true, false, and-false}
 use mathlib.Core.Logic.{_⊎_, inl, inr}
 use mathlib.Core.List.{List, [], _∷_}
-use Prim.Native.Nat.{ℕ, zero, suc, _-_, _^_, _≤_}
+use Prim.Native.Nat.{ℕ, zero, suc, _+_, _-_, _^_, _≤_}
 use native.Mathlib.Omega.{arith}
-use lib.ListN.{length, take, drop}
+use lib.ListN.{length, getD, take, drop}
 use lib.Seq.{drop-drop}
 use borrow.Author.Tests.{le-ltb}
 use Rattle.reason.specs.Answer.{Answer, accepted, refused, leaving}
@@ -18,14 +18,15 @@ use Rattle.header.specs.Header.{headerChecks}
 use Rattle.header.proofs.InOrder.{read-header-in-order}
 use Rattle.frame.specs.declared.Piece.{Piece}
 use Rattle.frame.specs.declared.Entry.{Entry}
-use Rattle.frame.specs.Piece.{pieceChecks, pieceOrder, bytesRead}
-use Rattle.frame.specs.Entry.{entryChecks, entryOrder, headerPart, headerBytesRead}
+use Rattle.frame.specs.Piece.{pieceChecks, pieceOrder, pieceBytesRead}
+use Rattle.frame.specs.Entry.{entryChecks, entryOrder, headerBytesRead}
 use Rattle.frame.proofs.InOrder.{read-piece-in-order, read-entry-in-order}
 use Rattle.reception.specs.Adding.{Offer, ofPiece, ofReception, after}
 use Rattle.reception.specs.Opening.{openingChecks}
 use Rattle.reception.specs.Joining.{joiningChecks, joining}
-use Rattle.reception.specs.Listing.{listingChecks}
-use Rattle.reception.proofs.InOrder.{open-in-order, join-in-order, list-in-order}
+use Rattle.holes.specs.Listing.{listingChecks}
+use Rattle.reception.proofs.InOrder.{open-in-order, join-in-order}
+use Rattle.holes.proofs.InOrder.{list-in-order}
 use Rattle.request.specs.Reading.{requestChecks, requestOrder}
 use Rattle.request.specs.Writing.{fillChecks, startChecks}
 use Rattle.request.proofs.InOrder.{read-request-in-order, write-fill-in-order, write-start-in-order}
@@ -34,13 +35,13 @@ use Rattle.record.specs.Loading.{loadingChecks}
 use Rattle.record.proofs.GivenAnswers.{room-to-save}
 use Rattle.record.proofs.RoundTrip.{record-stands}
 use Rattle.record.proofs.InOrder.{save-in-order, load-in-order}
-use Rattle.station.specs.Taking.{pieceIn, frameChecks, takingFrame}
+use Rattle.station.specs.Taking.{pieceDataIn, takingOrder, takingFrame}
 use Rattle.station.specs.Lent.{receptionIn}
 use Rattle.station.specs.AddressNumber.{addressOf}
 use Rattle.station.specs.Boundary.{code, Exported}
 use Rattle.station.specs.Demand1.{lastReason}
 use Rattle.station.specs.Exports as out
-use Rattle.station.specs.EntryExports as entry
+use Rattle.station.specs.FrameExports.{EntryTold}
 use Rattle.station.specs.AtBoundary.{Returns, AtBoundary}
 use Rattle.station.proofs.AddressLaws.{address-back}
 use Rattle.station.proofs.Demand1.{some-or-none, inTable, in-table, take-in-order}
@@ -96,6 +97,14 @@ front-again zero s = refl
 front-again (suc n) [] = refl
 front-again (suc n) (b ∷ s) = ap (λ (r : List ℕ). b ∷ r) (front-again n s)
 
+-- a part of the information, between the bytes before it and the check, stands in the frame where it is told to
+stands-there : (before : ℕ) (frame : List ℕ) → let i = informationOf frame in let part = take (length i - 2 - before) (drop before i) in
+    take (length part) (drop (16 + before) frame) ≡ part
+stands-there before frame =
+    let i = informationOf frame in
+    let part = take (length i - 2 - before) (drop before i) in
+    ap (take (length part)) (sym (drop-drop before 16 frame)) ∙ front-again (length i - 2 - before) (drop before i)
+
 -- what is left after an answer, as a reception
 counted-after : (number l : ℕ) (lent left : out.Counted) (o : Offer) (x : Answer ℕ) → left ≡ leaving (out.countedWith (out.lentTo number l lent) o) lent x
     → out.lentTo number l left ≡ after (out.lentTo number l lent) o x
@@ -111,7 +120,7 @@ pub at-boundary : AtBoundary
 unfolding headChecks pieceChecks entryChecks requestChecks
 at-boundary = record {
   station-open = λ l lent. returns (openingChecks l (lent .map) (lent .buffer)) _ _ _ lent refl (open-in-order l (lent .map) (lent .buffer));
-  station-take = λ number l frame lent. let s = out.lentTo number l lent in returns (frameChecks s frame) _ _ _ lent refl (take-in-order s frame);
+  station-take = λ number l frame lent. let s = out.lentTo number l lent in returns (takingOrder s frame) _ _ _ lent refl (take-in-order s frame);
   station-join = λ number l t lent. let s = out.lentTo number l lent in returns (joiningChecks s t) _ _ _ lent refl (join-in-order s t);
   station-list = λ l map place lent. returns (listingChecks l map place) _ _ _ lent refl (list-in-order l map place);
   station-save = λ s lent. returns (savingChecks s (lent .target)) _ _ _ lent refl (save-in-order s (lent .target));
@@ -119,16 +128,15 @@ at-boundary = record {
       (load-in-order saved (lent .map) (lent .buffer));
   station-piece = λ frame lent. returns (pieceOrder frame) _ _ _ lent refl (read-piece-in-order frame);
   station-entry = λ frame lent. returns (entryOrder frame) _ _ _ lent refl (read-entry-in-order frame);
-  station-entry-header = λ frame lent. returns (entryOrder frame) _ _ _ lent refl (read-entry-in-order frame);
   station-header = λ bytes number lent. returns (headerChecks bytes number) _ _ _ lent refl (read-header-in-order bytes number);
-  station-write-request = λ w place lent. returns (fillChecks w place (lent .target)) _ _ _ lent refl (write-fill-in-order w place (lent .target));
+  station-write-fill = λ w place lent. returns (fillChecks w place (lent .target)) _ _ _ lent refl (write-fill-in-order w place (lent .target));
   station-write-start = λ head number lent. returns (startChecks head lent) _ _ _ lent refl (write-start-in-order head number lent);
   station-read-request = λ frame lent. returns (requestOrder frame) _ _ _ lent refl (read-request-in-order frame);
   station-hole = λ frame index lent. returns (requestOrder frame) _ _ _ lent refl (read-request-in-order frame);
   opens-it = λ number l lent left r p e.
       ap (receptionIn number l) (told (openingChecks l (lent .map) (lent .buffer)) _ _ _ lent refl (open-in-order l (lent .map) (lent .buffer)) r left p e .1);
   takes-in = λ number l frame lent left r p.
-      counted-after number l lent left (ofPiece (pieceIn frame)) (takingFrame (out.lentTo number l lent) frame) (p .leaves);
+      counted-after number l lent left (ofPiece (pieceDataIn frame)) (takingFrame (out.lentTo number l lent) frame) (p .leaves);
   joins-in = λ number l t lent left r p.
       counted-after number l lent left (ofReception t) (joining (out.lentTo number l lent) t) (p .leaves);
   saves-it = λ s lent left r p e.
@@ -139,15 +147,13 @@ at-boundary = record {
       told (loadingChecks saved (lent .map) (lent .buffer)) _ _ _ lent refl (load-in-order saved (lent .map) (lent .buffer)) r left p e .1;
   piece-stands-there = λ frame lent left r p e.
       let is = told (pieceOrder frame) _ _ _ lent refl (read-piece-in-order frame) r left p e in
-      ap (λ (x : out.PieceNumbers). take (x .size) (drop (x .start) frame)) (is .1)
-      ∙ front-again (length frame - 27) (drop 25 frame)
-      ∙ sym (ap (λ (x : Answer Piece). bytesRead x frame) (is .0));
+      ap (λ (x : List ℕ). take (getD x 6 0) (drop (getD x 5 0) frame)) (is .1)
+      ∙ stands-there 9 frame
+      ∙ sym (ap (λ (x : Answer Piece). pieceBytesRead x frame) (is .0));
   header-stands-there = λ frame lent left r p e.
       let is = told (entryOrder frame) _ _ _ lent refl (read-entry-in-order frame) r left p e in
-      let i = informationOf frame in
-      ap (λ (x : entry.EntryNumbers). take (x .size) (drop (x .start) frame)) (is .1)
-      ∙ ap (take (length (headerPart i))) (sym (drop-drop 17 16 frame))
-      ∙ front-again (length i - 2 - 17) (drop 17 i)
+      ap (λ (x : EntryTold). take (getD (x .told) 8 0) (drop (getD (x .told) 7 0) frame)) (is .1)
+      ∙ stands-there 17 frame
       ∙ sym (ap (λ (x : Answer Entry). headerBytesRead x frame) (is .0));
   address-told-back = address-back;
   too-large-a-number = too-large;

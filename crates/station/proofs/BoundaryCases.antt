@@ -16,7 +16,7 @@ use Rattle.frame.specs.Piece.{pieceChecks, pieceFields, readPiece}
 use Rattle.frame.specs.Entry.{entryChecks, entryFields, readEntry}
 use Rattle.reception.specs.Opening.{opening}
 use Rattle.reception.specs.Joining.{joining}
-use Rattle.reception.specs.Listing.{listing}
+use Rattle.holes.specs.Listing.{listing}
 use Rattle.request.specs.Request.{requestFrame, holesRight}
 use Rattle.request.specs.Reading.{holeSpelled, requestChecks, requestFields, readRequest}
 use Rattle.request.specs.Writing.{filling, starting}
@@ -45,9 +45,8 @@ boundary-cases = record {
   piece-refused = record { returns = refl; leaves = refl };
   entry-out = record { returns = refl; leaves = refl };
   header-out = record { returns = refl; leaves = refl };
-  file-header-out = record { returns = refl; leaves = refl };
-  file-header-of-another = record { returns = refl; leaves = refl };
-  file-header-broken = record { returns = refl; leaves = refl };
+  header-of-another = record { returns = refl; leaves = refl };
+  header-broken = record { returns = refl; leaves = refl };
   extension-out = refl;
   no-upload = (refl, refl);
   write-request-out = record { returns = refl; leaves = refl };

@@ -16,7 +16,7 @@ use Rattle.header.specs.Header.{headerSum}
 use Rattle.frame.specs.Piece.{pieceChecks, pieceFields, readPiece}
 use Rattle.reception.specs.Opening.{opening}
 use Rattle.reception.specs.Joining.{joining}
-use Rattle.reception.specs.Listing.{listing}
+use Rattle.holes.specs.Listing.{listing}
 use Rattle.request.specs.Request.{requestFrame}
 use Rattle.request.specs.Writing.{filling}
 use Rattle.station.specs.Taking.{takingFrame}

@@ -10,7 +10,7 @@ use lib.Dec.{leb}
 use borrow.Author.Tests.{leb-true}
 use Rattle.reason.specs.declared.Outcome.{Outcome}
 use Rattle.reason.specs.declared.Outcome.the-variants as done
-use Rattle.reason.specs.Answer.{Answer, accepted, refused, telling, leaving, outcome, Wrote, Writes}
+use Rattle.reason.specs.Answer.{Answer, accepted, refused, telling, leaving, outcome, Writes, WritesAndTells}
 use Rattle.reason.specs.Order.{Check, check, firstOf, First, NoneHolds, Exactly}
 use Rattle.reason.proofs.Bools.{and-left, and-right}
 use Rattle.reason.proofs.OrderLaws.{not-both, exactly, answered, accepted-only-if}
@@ -39,17 +39,18 @@ use Rattle.frame.specs.Entry.{entryAnswer, entryChecks, readEntry}
 use Rattle.frame.proofs.InOrder.{read-piece-in-order, read-entry-in-order}
 use Rattle.reception.specs.declared.Added.{Added}
 use Rattle.reception.specs.declared.Added.the-variants as added
-use Rattle.reception.specs.declared.Hole.{Hole}
-use Rattle.reception.specs.declared.Listed.{Listed}
-use Rattle.reception.specs.declared.Listed.the-variants as listed
+use Rattle.holes.specs.declared.Hole.{Hole}
+use Rattle.holes.specs.declared.Listed.{Listed}
+use Rattle.holes.specs.declared.Listed.the-variants as listed
 use Rattle.reception.specs.Reception.{Reception}
 use Rattle.reception.specs.Adding.{Offer, ofPiece, newIn, mapWith, bufferWith, after, addedAnswer, Adds}
 use Rattle.reception.specs.Opening.{opening, openedMap, openedBuffer}
 use Rattle.reception.specs.Taking.{taking}
 use Rattle.reception.specs.Joining.{joining}
-use Rattle.reception.specs.Listing.{listing, listedAnswer}
+use Rattle.holes.specs.Listing.{listing, listedAnswer}
 use Rattle.reception.proofs.InOrder as piece
-use Rattle.reception.proofs.InOrder.{open-in-order, join-in-order, list-in-order}
+use Rattle.reception.proofs.InOrder.{open-in-order, join-in-order}
+use Rattle.holes.proofs.InOrder.{list-in-order}
 use Rattle.request.specs.declared.Request.{Request}
 use Rattle.request.specs.declared.RequestRead.{RequestRead}
 use Rattle.request.specs.declared.RequestRead.the-variants as request
@@ -68,15 +69,15 @@ use Rattle.record.specs.Saving.{saving, savedAnswer}
 use Rattle.record.specs.Reading.{readRecord, recordAnswer}
 use Rattle.record.specs.Loading.{loading, loadedMap, loadedBuffer}
 use Rattle.record.proofs.InOrder.{save-in-order, load-in-order, read-record-in-order}
-use Rattle.station.specs.Taking.{pieceIn, frameChecks, takingFrame}
+use Rattle.station.specs.Taking.{pieceDataIn, takingOrder, takingFrame}
 use Rattle.station.specs.Boundary.{code}
 use Rattle.station.specs.Demand1.{lastReason, Answers, nothing, Demand1}
 use Rattle.station.specs.Lent.{Lent, receptionIn}
 
 -- the order of taking a frame in
-pub take-in-order : (s : Reception) (frame : List ℕ) → Exactly (frameChecks s frame) (newIn s (ofPiece (pieceIn frame))) (takingFrame s frame)
+pub take-in-order : (s : Reception) (frame : List ℕ) → Exactly (takingOrder s frame) (newIn s (ofPiece (pieceDataIn frame))) (takingFrame s frame)
 unfolding takingFrame
-take-in-order s frame = exactly (frameChecks s frame) (newIn s (ofPiece (pieceIn frame)))
+take-in-order s frame = exactly (takingOrder s frame) (newIn s (ofPiece (pieceDataIn frame)))
 
 -- a reason holds first, or none holds
 pub some-or-none : (checks : List Check) → ((n : ℕ) × First n checks) ⊎ NoneHolds checks
@@ -187,11 +188,11 @@ adds number l lent o checks value answer table order =
     )
 
 -- .. and one list, which a writer that tells values leaves
-writes : {R A : Type 0} (checks : List Check) (value : A) (means : R → Answer A) (target : List ℕ) (answer : Answer A) (made : A → List ℕ)
+writes-and-tells : {R A : Type 0} (checks : List Check) (value : A) (means : R → Answer A) (target : List ℕ) (answer : Answer A) (made : A → List ℕ)
     → inTable checks ≡ true → Exactly checks value answer → (r : R) × (means r ≡ answer)
-    → Answers checks value means target (λ r left. Writes target answer made (means r) left)
-writes checks value means target answer made table order some =
-    by-order checks value means target (λ r left. Writes target answer made (means r) left) answer table order (λ r left p. p .answers)
+    → Answers checks value means target (λ r left. WritesAndTells target answer made (means r) left)
+writes-and-tells checks value means target answer made table order some =
+    by-order checks value means target (λ r left. WritesAndTells target answer made (means r) left) answer table order (λ r left p. p .answers)
     (λ r left p n e. p .bytes ∙ ap (leaving made target) e)
     (some .0, (leaving made target answer, record { answers = some .1; bytes = refl }))
 
@@ -214,13 +215,13 @@ done-in-order {A} checks value answer order = record {
     accepts (refused m) {u} is e = absurd (not-both u m e refl)
 
 -- .. and what it leaves
-wrote : (checks : List Check) (value target : List ℕ) (made : Answer (List ℕ)) → inTable checks ≡ true → Exactly checks value made
-    → Answers checks (tt {0}) outcome target (Wrote target made)
-wrote checks value target made table order =
+writes : (checks : List Check) (value target : List ℕ) (made : Answer (List ℕ)) → inTable checks ≡ true → Exactly checks value made
+    → Answers checks (tt {0}) outcome target (Writes target made)
+writes checks value target made table order =
     let some = some-outcome (telling (λ left. tt {0}) made) in
-    by-order checks (tt {0}) outcome target (Wrote target made) (telling (λ left. tt {0}) made) table (done-in-order checks value made order)
-    (λ r left p. p .answer) (λ r left p n e. p .bytes ∙ kept made n e)
-    (some .0, (leaving (λ left. left) target made, record { answer = some .1; bytes = refl }))
+    by-order checks (tt {0}) outcome target (Writes target made) (telling (λ left. tt {0}) made) table (done-in-order checks value made order)
+    (λ r left p. p .answers) (λ r left p n e. p .bytes ∙ kept made n e)
+    (some .0, (leaving (λ left. left) target made, record { answers = some .1; bytes = refl }))
   where
     kept : (x : Answer (List ℕ)) (n : ℕ) → telling (λ left. tt {0}) x ≡ refused n → leaving (λ left. left) target x ≡ target
     kept (accepted a) n e = absurd (not-both (tt {0}) n refl e)
@@ -256,9 +257,9 @@ demand-1 = record {
       );
   joins = λ number l lent t. let s = receptionIn number l lent in adds number l lent _ _ _ (joining s t) refl (join-in-order s t);
   lists = λ l map place. reads _ _ _ (listing l map place) refl (list-in-order l map place) (some-listed (listing l map place));
-  fills = λ w place target. writes _ _ filledAnswer target (filling w place target) _ refl (write-fill-in-order w place target) (some-filled (filling w place target));
-  starts = λ head number target. wrote _ _ target (starting head number target) refl (write-start-in-order head number target);
-  saves = λ s target. writes _ _ savedAnswer target (saving s target) _ refl (save-in-order s target) (some-saved (saving s target));
+  fills = λ w place target. writes-and-tells _ _ filledAnswer target (filling w place target) _ refl (write-fill-in-order w place target) (some-filled (filling w place target));
+  starts = λ head number target. writes _ _ target (starting head number target) refl (write-start-in-order head number target);
+  saves = λ s target. writes-and-tells _ _ savedAnswer target (saving s target) _ refl (save-in-order s target) (some-saved (saving s target));
   reads-record = λ saved. reads _ _ _ (readRecord saved) refl (read-record-in-order saved) (some-record (readRecord saved));
   loads = λ saved lent. let answer = loading saved (lent .map) (lent .buffer) in
       by-order _ _ recordAnswer lent _ answer refl (load-in-order saved (lent .map) (lent .buffer)) (λ r left p. p .answers)
@@ -273,9 +274,9 @@ demand-1 = record {
         ),
       );
   reads-address = λ role s at. reads _ _ _ (readAddress role s at) refl (read-address-in-order role s at) (some-address (readAddress role s at));
-  writes-address = λ role out at a. wrote _ _ out (writeAddress role out at a) refl (write-address-in-order role out at a);
+  writes-address = λ role out at a. writes _ _ out (writeAddress role out at a) refl (write-address-in-order role out at a);
   reads-head = λ protocol frame. reads _ _ _ (readHead protocol frame) refl (read-head-in-order protocol frame) (some-head (readHead protocol frame));
-  writes-head = λ out destination source protocol. wrote _ _ out (writeHead out destination source protocol) refl
+  writes-head = λ out destination source protocol. writes _ _ out (writeHead out destination source protocol) refl
       (write-head-in-order out destination source protocol);
   reads-header = λ s number. reads _ _ _ (readHeader s number) refl (read-header-in-order s number) (some-header (readHeader s number));
 }

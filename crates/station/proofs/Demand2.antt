@@ -14,7 +14,7 @@ use Rattle.frame.specs.Piece.{readPiece}
 use Rattle.frame.specs.Entry.{readEntry}
 use Rattle.frame.proofs.Says.{piece-says, entry-says, entry-is-read, accepted-entry-keeps, eight-says, not-piece-and-entry}
 use Rattle.frame.proofs.RoundTrip as piece
-use Rattle.reception.proofs.HoleLaws.{hole-is, hole-first, none-only-if}
+use Rattle.holes.proofs.HoleLaws.{hole-is, hole-first, none-only-if}
 use Rattle.request.specs.declared.Asks.{Asks}
 use Rattle.request.specs.declared.Asks.the-variants.{Start, Holes}
 use Rattle.request.specs.declared.Request.{Request}
@@ -41,7 +41,7 @@ not-piece-and-request frame p r x y = flags-differ (r .asks) (sym (request-says 
 
 -- a request's protocol is that of files
 not-entry-and-request : (frame : List ℕ) (e : Entry) (r : Request) → readEntry frame ≡ accepted e → readRequest frame ≡ accepted r → ⊥
-not-entry-and-request frame e r x y = omega (arith, entry-says frame e x .head .named, request-says frame r y .head .named)
+not-entry-and-request frame e r x y = omega (arith, entry-says frame e x .head .of-protocol, request-says frame r y .head .of-protocol)
 
 -- a run at the front of a target, and the target behind it
 fills-the-first-bytes : (target run : List ℕ) → putIn target 0 run ≡ run ++ drop (length run) target

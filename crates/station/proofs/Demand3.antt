@@ -1,27 +1,30 @@
--- The third demand over frames, proved: what a station holds is in `StationLaws`, that every reception that is made is a station's in
--- `MadeLaws`, what calls leave in `CallLaws`, and the laws of joining, over any sets of positions, in `reception`.
+-- The third demand, proved: what one frame does is in `OneFrame`, what a station holds in `StationLaws`, that every reception that is made is
+-- a station's in `MadeLaws`, what calls leave in `CallLaws`, and the laws of joining, over any sets of positions, in `reception`.
 -- Assumes nothing.
 use mathlib.Core.Path.{_≡_, refl, sym, ap, ap₂, _∙_}
 use mathlib.Core.Bool.{Bool, true, false, _||_}
 use mathlib.Core.List.{List}
 use Prim.Native.Nat.{ℕ, _^_, _<_}
 use Rattle.reason.specs.Answer.{accepted}
+use Rattle.octets.specs.Lists.{OneOf}
 use Rattle.octets.specs.Numbers.{AllBytes}
 use Rattle.positions.specs.Map.{held, mapSize}
 use Rattle.reception.specs.Reception.{Reception, wrongLength, shortSpace}
 use Rattle.reception.specs.Joining.{joined}
 use Rattle.reception.specs.Contents.{HoldsOf, itself}
 use Rattle.reception.proofs.Holding.{same-reception, joined-holds}
-use Rattle.reception.proofs.HoleLaws as holes
 use Rattle.reception.proofs.LentSpace.{all-of-it, opened-beyond, joined-beyond}
-use Rattle.reception.proofs.Demand3 as over
+use Rattle.reception.proofs.HoldingLaws as over
+use Rattle.holes.proofs.HoleLaws as holes
+use Rattle.holes.proofs.NoneLeft.{none-left-is-the-file}
 use Rattle.record.specs.Record.{recordOf}
 use Rattle.record.specs.Loading.{loaded}
 use Rattle.record.proofs.RoundTrip as saved
 use Rattle.station.specs.Taking.{takingFrame, takenFrame}
-use Rattle.station.specs.Sequences.{takenFrames, inPiece, fitsFile, covered, Among}
+use Rattle.station.specs.Sequences.{takenFrames, inPiece, fitsFile, covered}
 use Rattle.station.specs.Stations.{Station, receptionOf, Made, framesIn}
 use Rattle.station.specs.Demand3.{Demand3}
+use Rattle.station.proofs.OneFrame as one
 use Rattle.station.proofs.StationLaws as of
 use Rattle.station.proofs.MadeLaws as made
 use Rattle.station.proofs.CallLaws.{open-leaves, adding-leaves, calls-take, save-leaves, load-leaves}
@@ -36,12 +39,12 @@ module _ (number l : ℕ) (file : List ℕ) (ok : wrongLength l ≡ false) where
   holds s m = made.made-holds number l file ok s m
 
   -- a frame of a station's sequence again: its positions are all held
-  repeat-counts-0 : (a : Station number l file) (frame : List ℕ) → Among frame (a .frames) → fitsFile number l frame ≡ true
+  repeat-counts-0 : (a : Station number l file) (frame : List ℕ) → OneOf frame (a .frames) → fitsFile number l frame ≡ true
       → (takingFrame (receptionOf a) frame ≡ accepted 0) × (takenFrame (receptionOf a) frame ≡ receptionOf a)
   repeat-counts-0 a frame among fit =
-      made.held-counts-0 number l file ok (receptionOf a) (made.stations-are-made number l file ok a .0) frame fit
-      (of.among-agrees number l file ok frame (a .frames) (a .agree) among fit)
-      (λ p w. of.covered-is-held number l file ok a p (of.among-covers number l file ok frame (a .frames) among fit p w))
+      one.held-counts-0 number l file ok (covered number l (a .frames)) (receptionOf a) (of.holds-fitting number l file ok a) frame fit
+      (of.one-agrees number l file ok frame (a .frames) (a .agree) among fit)
+      (λ p w. of.covered-is-held number l file ok a p (of.one-covers number l file ok frame (a .frames) among fit p w))
 
   -- ---- saved and loaded
   module _ (s t : Reception) (m : Made number l file s) (n : Made number l file t) (four : number < 256 ^ 4) (map buffer : List ℕ)
@@ -86,14 +89,14 @@ module _ (number l : ℕ) (file : List ℕ) (ok : wrongLength l ≡ false) where
     made-is-a-station = made.made-is-a-station number l file ok;
     stations-are-made = made.stations-are-made number l file ok;
     made-holds = made.made-holds number l file ok;
-    fitting-is-taken = made.fitting-is-taken number l file ok;
-    held-counts-0 = made.held-counts-0 number l file ok;
-    other-is-refused = made.other-is-refused number l file ok;
+    fitting-is-taken = λ s m. one.fitting-is-taken number l file ok (set s m) s (holds s m);
+    held-counts-0 = λ s m. one.held-counts-0 number l file ok (set s m) s (holds s m);
+    other-is-refused = λ s m. one.other-is-refused number l file ok (set s m) s (holds s m);
     itself-is-given-back = λ s m four map buffer bytes room.
         saved.itself-is-given-back number l file (set s m) s (holds s m) ok four map buffer room bytes;
     loaded-are-joined = λ s t m n four map buffer bytes room.
         (loaded-second s t m n four map buffer bytes room, loaded-first s t m n four map buffer bytes room);
-    beyond-taken = made.taken-leaves-beyond number l file ok;
+    beyond-taken = λ s m. one.frame-beyond number l file ok (set s m) s (holds s m);
     beyond-joined = λ s t m. joined-beyond s (holds s m .map-bytes) t;
     beyond-loaded = λ s m four map buffer bytes room. saved.loaded-beyond number l file (set s m) s (holds s m) ok four map buffer room bytes;
     join-counts = λ s t m n. over.never-refused number l file ok (set s m) (set t n) s t (holds s m) (holds t n);
@@ -112,5 +115,5 @@ module _ (number l : ℕ) (file : List ℕ) (ok : wrongLength l ≡ false) where
     missing-is-in-a-hole = λ s m. holes.in-a-hole l (s .map);
     first-from-place = λ s m place hole e.
         (let first = holes.hole-first l (s .map) place hole e in (holes.hole-is l (s .map) place hole e, first .0, first .1));
-    none-left-is-the-file = λ s m. over.none-left-is-the-file number l file ok (set s m) s (holds s m);
+    none-left-is-the-file = λ s m. none-left-is-the-file number l file (set s m) s (holds s m);
   }

@@ -4,8 +4,8 @@ pub mod MoreCases
 pub mod TakingLaws
 pub mod AddressLaws
 pub mod ExportLaws
-pub mod EntryExportLaws
-pub mod FramesLaws
+pub mod RequestExportLaws
+pub mod OneFrame
 pub mod StationLaws
 pub mod MadeLaws
 pub mod CallLaws

@@ -8,6 +8,7 @@ use Prim.Native.Nat.{ℕ, zero, suc}
 use native.Mathlib.Omega.{arith}
 use lib.ListN.{replicate}
 use Rattle.reason.specs.Answer.{accepted}
+use Rattle.octets.specs.Lists.{OneOf}
 use Rattle.octets.specs.Numbers.{AllBytes}
 use Rattle.reason.specs.Order.{firstOf}
 use Rattle.octets.specs.Runs.{putIn}
@@ -21,12 +22,12 @@ use Rattle.ax25.specs.Head.{headChecks, headOf, headBytes}
 use Rattle.frame.specs.Piece.{pieceChecks, pieceFields, readPiece}
 use Rattle.reception.specs.Opening.{opening}
 use Rattle.reception.specs.Joining.{joining}
-use Rattle.reception.specs.Listing.{listing}
+use Rattle.holes.specs.Listing.{listing}
 use Rattle.record.specs.Record.{recordOf}
 use Rattle.station.specs.Taking.{takingFrame}
-use Rattle.reception.specs.Sequences.{AgreesWith}
-use Rattle.station.specs.Taking.{pieceIn}
-use Rattle.station.specs.Sequences.{AllAgree, Among}
+use Rattle.reception.specs.Fitting.{AgreesWith}
+use Rattle.station.specs.Taking.{pieceDataIn}
+use Rattle.station.specs.Sequences.{AllAgree}
 use Rattle.station.specs.Stations.{Station, Made, by-opening, by-taking, by-joining, by-loading}
 use Rattle.station.specs.Cases.{twenty, front}
 use Rattle.station.specs.MoreCases.{file, heard, ten, eighteen, handedOn, MoreCases}
@@ -42,7 +43,7 @@ bytes-of-four zero = omega arith
 bytes-of-four (suc i) = bytes-of-three i
 
 -- what `front` says is the file's; the other frames do not fit
-front-agrees : AgreesWith file (pieceIn front)
+front-agrees : AgreesWith file (pieceDataIn front)
 unfolding withBit withBits messageBits remainderOf headBytes pieceFields
 front-agrees zero h = refl
 front-agrees (suc zero) h = refl
@@ -59,13 +60,13 @@ heard-agree =
     (λ _. front-agrees, (unfit, (unfit, (unfit, (unfit, (unfit, (λ _. front-agrees, tt)))))))
 
 -- the two other pieces
-ten-agrees : AgreesWith file (pieceIn ten)
+ten-agrees : AgreesWith file (pieceDataIn ten)
 unfolding withBit withBits messageBits remainderOf headBytes pieceFields
 ten-agrees zero h = refl
 ten-agrees (suc zero) h = refl
 ten-agrees (suc (suc i)) h = absurd (omega (arith, h))
 
-eighteen-agrees : AgreesWith file (pieceIn eighteen)
+eighteen-agrees : AgreesWith file (pieceDataIn eighteen)
 unfolding withBit withBits messageBits remainderOf headBytes pieceFields
 eighteen-agrees zero h = refl
 eighteen-agrees (suc zero) h = refl
@@ -80,7 +81,7 @@ abbrev example : Station 7 20 file
 example = record { map = replicate 3 0xFF; buffer = replicate 20 0xFF; bytes = bytes-of-three; opens = opens-twenty; frames = heard; agree = heard-agree }
 
 -- a reception with one piece, opened in space that held something else
-one-piece : (frame : List ℕ) → AgreesWith file (pieceIn frame) → Made 7 20 file (twenty (frame ∷ []))
+one-piece : (frame : List ℕ) → AgreesWith file (pieceDataIn frame) → Made 7 20 file (twenty (frame ∷ []))
 one-piece frame agree = by-taking _ frame (by-opening (replicate 3 0xFF) (replicate 20 0xFF) bytes-of-three opens-twenty) (λ _. agree)
 
 handed-on : Made 7 20 file handedOn
@@ -89,7 +90,7 @@ handed-on =
     (by-loading _ (replicate 4 0xFF) (replicate 21 0xFF)
     (by-joining _ _ (one-piece front front-agrees) (one-piece ten ten-agrees)) (omega arith) bytes-of-four refl) (λ _. eighteen-agrees)
 
-among-any : (frame : List ℕ) (before behind : List (List ℕ)) → Among frame (before ++ frame ∷ behind)
+among-any : (frame : List ℕ) (before behind : List (List ℕ)) → OneOf frame (before ++ frame ∷ behind)
 among-any frame [] behind = inl refl
 among-any frame (f ∷ before) behind = inr (among-any frame before behind)
 

@@ -1,56 +1,84 @@
--- What a station holds after its frames, and what joining two stations gives: each from the same about the pieces among the frames.
+-- What a station holds after its frames, and what joining two stations gives: by induction over the frames, with the laws of one frame.
 -- Assumes nothing.
 use mathlib.Core.Path.{_≡_, refl, sym, ap, ap₂, _∙_}
-use mathlib.Core.Bool.{Bool, true, false, _&&_, _||_, or-true, true≢false}
+use mathlib.Core.Bool.{Bool, true, false, _&&_, _||_, or-true, or-false, or-assoc, true≢false}
 use mathlib.Core.Logic.{inl, inr, ⊎-elim}
 use mathlib.Core.List.{List, [], _∷_, _++_}
-use Prim.Native.Nat.{ℕ, _<_}
+use Prim.Native.Nat.{ℕ, _*_, _<_}
 use native.Mathlib.Omega.{arith}
+use lib.ListN.{length}
+use Rattle.reason.specs.Answer.{isAccepted}
 use Rattle.reason.proofs.Bools.{le-or-lt}
+use Rattle.octets.specs.Lists.{OneOf}
 use Rattle.positions.specs.Map.{held}
-use Rattle.reception.specs.Reception.{Reception, Piece, wrongLength}
+use Rattle.reception.specs.Reception.{Reception, wrongLength}
 use Rattle.reception.specs.Opening.{opened}
 use Rattle.reception.specs.Joining.{joined}
-use Rattle.reception.specs.Sequences as pieces
-use Rattle.reception.specs.Sequences.{AgreesWith}
-use Rattle.reception.specs.Stations as stations
+use Rattle.reception.specs.Fitting.{AgreesWith}
 use Rattle.reception.specs.Contents.{HoldsOf, itself, beyond}
-use Rattle.reception.proofs.Holding.{told, same-reception}
-use Rattle.reception.proofs.Demand3 as over
-use Rattle.station.specs.Taking.{pieceIn}
-use Rattle.station.specs.Sequences.{takenFrames, inPiece, coveredIn, fitsFile, covered, Among, AllAgree}
+use Rattle.reception.proofs.GivenReasons.{opens-only-if}
+use Rattle.reception.proofs.Holding.{told, same-reception, opened-holds, joined-holds}
+use Rattle.reception.proofs.HoldingLaws.{as-long, held-after}
+use Rattle.reception.proofs.LentSpace.{all-of-it, joined-beyond}
+use Rattle.station.specs.Taking.{pieceDataIn, takingFrame, takenFrame}
+use Rattle.station.specs.Sequences.{takenFrames, inPiece, coveredIn, fitsFile, covered, AllAgree}
 use Rattle.station.specs.Stations.{Station, fresh, receptionOf}
-use Rattle.station.proofs.FramesLaws as by
+use Rattle.station.proofs.OneFrame.{accepted-is-fitting, frame-holds, frame-beyond}
 
--- a property of a reception, by another that is the same
-carry : (P : Reception → Type 0) (s t : Reception) → s ≡ t → P t → P s
-carry P s t e x = rw e x
+-- ---- any frames at all, also ones that agree with no file: a position is held exactly if it was before, or an accepted piece covered it
+pub held-after-frames : (s : Reception) (frames : List (List ℕ)) (p : ℕ) → p < length (s .map) * 8
+    → held (takenFrames s frames .map) p ≡ (held (s .map) p || coveredIn s frames p)
+held-after-frames s [] p h = sym (or-false (held (s .map) p))
+held-after-frames s (frame ∷ frames) p h =
+    held-after-frames (takenFrame s frame) frames p (let e = as-long s (pieceDataIn frame) (takingFrame s frame) in omega (arith, e, h))
+    ∙ ap (λ (b : Bool). b || coveredIn (takenFrame s frame) frames p) (held-after s (pieceDataIn frame) (takingFrame s frame) p h)
+    ∙ or-assoc (held (s .map) p) (isAccepted (takingFrame s frame) && inPiece frame p) (coveredIn (takenFrame s frame) frames p)
 
 module _ (number l : ℕ) (file : List ℕ) (ok : wrongLength l ≡ false) where
-  abbrev Over : Station number l file → stations.Station number l file
-  Over a = by.over-pieces number l file a
+  -- ---- frames taken into a reception of the file
 
-  same : (a : Station number l file) → receptionOf a ≡ stations.receptionOf (Over a)
-  same a = by.holds-by-pieces number l file a
+  -- held is what was before, and what the frames cover
+  frames-hold : (frames : List (List ℕ)) (S : ℕ → Bool) (s : Reception) → HoldsOf number l file S s → AllAgree number l file frames
+      → HoldsOf number l file (λ p. S p || covered number l frames p) (takenFrames s frames)
+  frames-hold [] S s h agree = told number l file S (λ p. S p || false) s (λ p. sym (or-false (S p))) h
+  frames-hold (frame ∷ frames) S s h agree =
+      told number l file (λ p. (S p || fitsFile number l frame && inPiece frame p) || covered number l frames p) (λ p. S p || covered number l (frame ∷ frames) p)
+      (takenFrames (takenFrame s frame) frames) (λ p. or-assoc (S p) (fitsFile number l frame && inPiece frame p) (covered number l frames p))
+      (frames-hold frames (λ p. S p || fitsFile number l frame && inPiece frame p) (takenFrame s frame)
+      (frame-holds number l file ok S s h frame (agree .0)) (agree .1))
+
+  -- what the accepted pieces cover is what the fitting pieces cover
+  frames-cover : (frames : List (List ℕ)) (S : ℕ → Bool) (s : Reception) → HoldsOf number l file S s → AllAgree number l file frames → (p : ℕ)
+      → coveredIn s frames p ≡ covered number l frames p
+  frames-cover [] S s h agree p = refl
+  frames-cover (frame ∷ frames) S s h agree p =
+      ap₂ (λ (b c : Bool). b && inPiece frame p || c) (accepted-is-fitting number l file ok S s h frame (agree .0))
+      (frames-cover frames (λ q. S q || fitsFile number l frame && inPiece frame q) (takenFrame s frame)
+      (frame-holds number l file ok S s h frame (agree .0)) (agree .1) p)
+
+  -- what lies beyond stays
+  frames-beyond : (frames : List (List ℕ)) (S : ℕ → Bool) (s : Reception) → HoldsOf number l file S s → AllAgree number l file frames
+      → beyond (takenFrames s frames) ≡ beyond s
+  frames-beyond [] S s h agree = refl
+  frames-beyond (frame ∷ frames) S s h agree =
+      frames-beyond frames (λ p. S p || fitsFile number l frame && inPiece frame p) (takenFrame s frame)
+      (frame-holds number l file ok S s h frame (agree .0)) (agree .1)
+      ∙ frame-beyond number l file ok S s h frame
 
   -- ---- what a station holds
 
-  pub held-exactly : (a : Station number l file) → HoldsOf number l file (coveredIn (fresh a) (a .frames)) (receptionOf a)
-  held-exactly a =
-      told number l file (pieces.coveredIn (fresh a) (by.piecesIn (a .frames))) (coveredIn (fresh a) (a .frames)) (receptionOf a)
-      (λ p. sym (by.covered-by-pieces (fresh a) (a .frames) p))
-      (carry (HoldsOf number l file (pieces.coveredIn (fresh a) (by.piecesIn (a .frames)))) (receptionOf a) (stations.receptionOf (Over a)) (same a)
-      (over.holds-the-accepted number l file ok (Over a)))
-
-  pub accepted-are-fitting : (a : Station number l file) (p : ℕ) → coveredIn (fresh a) (a .frames) p ≡ covered number l (a .frames) p
-  accepted-are-fitting a p =
-      by.covered-by-pieces (fresh a) (a .frames) p
-      ∙ over.accepted-are-fitting number l file ok (Over a) p
-      ∙ sym (by.fitting-by-pieces number l (a .frames) p)
+  fresh-holds : (a : Station number l file) → HoldsOf number l file (λ p. false) (fresh a)
+  fresh-holds a = opened-holds number l file (a .map) (a .buffer) (opens-only-if l (a .map) (a .buffer) (a .opens) .1) (a .bytes)
 
   pub holds-fitting : (a : Station number l file) → HoldsOf number l file (covered number l (a .frames)) (receptionOf a)
-  holds-fitting a =
-      told number l file (coveredIn (fresh a) (a .frames)) (covered number l (a .frames)) (receptionOf a) (accepted-are-fitting a) (held-exactly a)
+  holds-fitting a = frames-hold (a .frames) (λ p. false) (fresh a) (fresh-holds a) (a .agree)
+
+  pub accepted-are-fitting : (a : Station number l file) (p : ℕ) → coveredIn (fresh a) (a .frames) p ≡ covered number l (a .frames) p
+  accepted-are-fitting a p = frames-cover (a .frames) (λ q. false) (fresh a) (fresh-holds a) (a .agree) p
+
+  pub held-exactly : (a : Station number l file) → HoldsOf number l file (coveredIn (fresh a) (a .frames)) (receptionOf a)
+  held-exactly a =
+      told number l file (covered number l (a .frames)) (coveredIn (fresh a) (a .frames)) (receptionOf a) (λ p. sym (accepted-are-fitting a p)) (holds-fitting a)
 
   -- what is covered is held: only positions below the length are
   pub covered-is-held : (a : Station number l file) (p : ℕ) → covered number l (a .frames) p ≡ true → held (receptionOf a .map) p ≡ true
@@ -65,44 +93,62 @@ module _ (number l : ℕ) (file : List ℕ) (ok : wrongLength l ≡ false) where
       (holds-fitting b) (λ p _. e p)
 
   pub beyond-unchanged : (a : Station number l file) → beyond (receptionOf a) ≡ beyond (fresh a)
-  beyond-unchanged a = ap beyond (same a) ∙ over.station-beyond number l file ok (Over a)
+  beyond-unchanged a = frames-beyond (a .frames) (λ p. false) (fresh a) (fresh-holds a) (a .agree)
 
   -- a frame of the sequence that fits agrees, and what it covers is covered
-  pub among-agrees : (frame : List ℕ) (frames : List (List ℕ)) → AllAgree number l file frames → Among frame frames → fitsFile number l frame ≡ true
-      → AgreesWith file (pieceIn frame)
-  among-agrees frame (f ∷ frames) a (inl e) fit = rw e (a .0 (rw e at fit))
-  among-agrees frame (f ∷ frames) a (inr m) fit = among-agrees frame frames (a .1) m fit
+  pub one-agrees : (frame : List ℕ) (frames : List (List ℕ)) → AllAgree number l file frames → OneOf frame frames → fitsFile number l frame ≡ true
+      → AgreesWith file (pieceDataIn frame)
+  one-agrees frame (f ∷ frames) a (inl e) fit = rw e (a .0 (rw e at fit))
+  one-agrees frame (f ∷ frames) a (inr m) fit = one-agrees frame frames (a .1) m fit
 
-  pub among-covers : (frame : List ℕ) (frames : List (List ℕ)) → Among frame frames → fitsFile number l frame ≡ true → (p : ℕ) → inPiece frame p ≡ true
+  pub one-covers : (frame : List ℕ) (frames : List (List ℕ)) → OneOf frame frames → fitsFile number l frame ≡ true → (p : ℕ) → inPiece frame p ≡ true
       → covered number l frames p ≡ true
-  among-covers frame (f ∷ frames) (inl e) fit p w = rw (sym e) (ap₂ (λ (b c : Bool). b && c || covered number l frames p) fit w)
-  among-covers frame (f ∷ frames) (inr m) fit p w =
-      ap (λ (b : Bool). fitsFile number l f && inPiece f p || b) (among-covers frame frames m fit p w) ∙ or-true (fitsFile number l f && inPiece f p)
+  one-covers frame (f ∷ frames) (inl e) fit p w = rw (sym e) (ap₂ (λ (b c : Bool). b && c || covered number l frames p) fit w)
+  one-covers frame (f ∷ frames) (inr m) fit p w =
+      ap (λ (b : Bool). fitsFile number l f && inPiece f p || b) (one-covers frame frames m fit p w) ∙ or-true (fitsFile number l f && inPiece f p)
 
-  -- ---- joining
-  pub join-is-both : (a b : Station number l file) → joined (receptionOf a) (receptionOf b) ≡ takenFrames (fresh a) (a .frames ++ b .frames)
-  join-is-both a b =
-      ap₂ joined (same a) (same b)
-      ∙ over.join-is-one-station number l file ok (Over a) (Over b)
-      ∙ sym (by.taken-by-pieces (fresh a) (a .frames ++ b .frames) ∙ ap (pieces.takenAll (fresh a)) (by.pieces-both (a .frames) (b .frames)))
+  -- ---- joining two stations is one station after both sequences
 
-  pub join-is-one-station : (a b c : Station number l file) → c .map ≡ a .map → c .buffer ≡ a .buffer → c .frames ≡ a .frames ++ b .frames
-      → joined (receptionOf a) (receptionOf b) ≡ receptionOf c
-  join-is-one-station a b c m d f =
-      join-is-both a b ∙ sym (ap₂ (λ (s : Reception) (frames : List (List ℕ)). takenFrames s frames) (ap₂ (opened number l) m d) f)
+  covered-both : (xs ys : List (List ℕ)) (p : ℕ) → covered number l (xs ++ ys) p ≡ (covered number l xs p || covered number l ys p)
+  covered-both [] ys p = refl
+  covered-both (frame ∷ xs) ys p =
+      ap (λ (b : Bool). fitsFile number l frame && inPiece frame p || b) (covered-both xs ys p)
+      ∙ sym (or-assoc (fitsFile number l frame && inPiece frame p) (covered number l xs p) (covered number l ys p))
 
-  -- what two sequences cover, by the pieces among them
-  pub covered-both : (xs ys : List (List ℕ)) (p : ℕ)
-      → (covered number l xs p || covered number l ys p) ≡ pieces.covered number l (by.piecesIn xs ++ by.piecesIn ys) p
-  covered-both xs ys p =
-      ap₂ _||_ (by.fitting-by-pieces number l xs p) (by.fitting-by-pieces number l ys p)
-      ∙ sym (over.covered-both number l file ok (by.piecesIn xs) (by.piecesIn ys) p)
+  pub agree-both : (xs ys : List (List ℕ)) → AllAgree number l file xs → AllAgree number l file ys → AllAgree number l file (xs ++ ys)
+  agree-both [] ys a b = b
+  agree-both (frame ∷ xs) ys a b = (a .0, agree-both xs ys (a .1) b)
+
+  -- a station that takes in more frames
+  abbrev pub and-then : (a : Station number l file) (frames : List (List ℕ)) → AllAgree number l file frames → Station number l file
+  and-then a frames agree = record {
+    map = a .map;
+    buffer = a .buffer;
+    bytes = a .bytes;
+    opens = a .opens;
+    frames = a .frames ++ frames;
+    agree = agree-both (a .frames) frames (a .agree) agree;
+  }
+
+  joined-hold : (a b : Station number l file)
+      → HoldsOf number l file (λ p. covered number l (a .frames) p || covered number l (b .frames) p) (joined (receptionOf a) (receptionOf b))
+  joined-hold a b =
+      joined-holds number l file ok (covered number l (a .frames)) (covered number l (b .frames)) (receptionOf a) (receptionOf b) (holds-fitting a) (holds-fitting b)
 
   pub join-is-any-station : (a b c : Station number l file)
       → ((p : ℕ) → covered number l (c .frames) p ≡ (covered number l (a .frames) p || covered number l (b .frames) p))
       → itself (joined (receptionOf a) (receptionOf b)) ≡ itself (receptionOf c)
   join-is-any-station a b c e =
-      ap itself (ap₂ joined (same a) (same b))
-      ∙ over.join-is-any-station number l file ok (Over a) (Over b) (Over c)
-      (λ p. sym (by.fitting-by-pieces number l (c .frames) p) ∙ e p ∙ covered-both (a .frames) (b .frames) p)
-      ∙ sym (ap itself (same c))
+      same-reception number l file (λ p. covered number l (a .frames) p || covered number l (b .frames) p) (covered number l (c .frames))
+      (joined (receptionOf a) (receptionOf b)) (receptionOf c) (joined-hold a b) (holds-fitting c) (λ p _. sym (e p))
+
+  pub join-is-both : (a b : Station number l file) → joined (receptionOf a) (receptionOf b) ≡ takenFrames (fresh a) (a .frames ++ b .frames)
+  join-is-both a b =
+      let c = and-then a (b .frames) (b .agree) in
+      all-of-it (joined (receptionOf a) (receptionOf b)) (receptionOf c) (join-is-any-station a b c (covered-both (a .frames) (b .frames)))
+      (joined-beyond (receptionOf a) (holds-fitting a .map-bytes) (receptionOf b) ∙ beyond-unchanged a ∙ sym (beyond-unchanged c))
+
+  pub join-is-one-station : (a b c : Station number l file) → c .map ≡ a .map → c .buffer ≡ a .buffer → c .frames ≡ a .frames ++ b .frames
+      → joined (receptionOf a) (receptionOf b) ≡ receptionOf c
+  join-is-one-station a b c m d f =
+      join-is-both a b ∙ sym (ap₂ (λ (s : Reception) (frames : List (List ℕ)). takenFrames s frames) (ap₂ (opened number l) m d) f)

@@ -5,7 +5,7 @@ use mathlib.Core.Path.{_≡_}
 use mathlib.Core.Bool.{true, false}
 use mathlib.Core.List.{List}
 use Prim.Native.Nat.{ℕ, suc, _^_, _≤_}
-use lib.ListN.{take, drop}
+use lib.ListN.{getD, take, drop}
 use Rattle.reason.specs.Order.{Check, First, NoneHolds}
 use Rattle.ax25.specs.declared.Address.{Address}
 use Rattle.ax25.specs.declared.Head.{Head}
@@ -13,23 +13,23 @@ use Rattle.ax25.specs.Address.{isWritable}
 use Rattle.header.specs.Header.{headerChecks}
 use Rattle.frame.specs.Piece.{pieceOrder, pieceBytes}
 use Rattle.frame.specs.Entry.{entryOrder, headerBytes}
-use Rattle.reception.specs.declared.Hole.{Hole}
+use Rattle.holes.specs.declared.Hole.{Hole}
 use Rattle.reception.specs.Reception.{Reception}
 use Rattle.reception.specs.Opening.{openingChecks, opened}
 use Rattle.reception.specs.Joining.{joiningChecks, joined}
-use Rattle.reception.specs.Listing.{listingChecks}
+use Rattle.holes.specs.Listing.{listingChecks}
 use Rattle.request.specs.Reading.{requestOrder}
 use Rattle.request.specs.Writing.{Wanted, fillChecks, startChecks}
 use Rattle.record.specs.Record.{recordOf}
 use Rattle.record.specs.Saving.{savingChecks}
 use Rattle.record.specs.Loading.{loadingChecks, loaded}
-use Rattle.station.specs.Taking.{frameChecks, takenFrame}
+use Rattle.station.specs.Taking.{takingOrder, takenFrame}
 use Rattle.station.specs.AddressNumber.{addressNumber, addressOf}
 use Rattle.station.specs.Lent.{Lent, receptionIn}
 use Rattle.station.specs.Demand1.{lastReason}
 use Rattle.station.specs.Exports as out
-use Rattle.station.specs.EntryExports as entry
-use Rattle.station.specs.HeaderExports.{FileHeaderNumbers, FileHeaderOut}
+use Rattle.station.specs.FrameExports.{PieceOut, EntryTold, EntryOut, HeaderTold, HeaderOut}
+use Rattle.station.specs.RequestExports.{WrittenRequest, FillsOut, StartsOut, RequestOut, HoleOut}
 
 -- One function, for one input: `checks` are the reasons of its operation in their order, and `promise r left` is its promise, r being
 -- what it returns and `left` what it leaves of what it was lent.
@@ -48,23 +48,20 @@ pub record Returns {L : Type 0} (checks : List Check) (lent : L) (promise : ℕ 
 pub record AtBoundary : Type 0 where
   pub station-open : (l : ℕ) (lent : Lent) → Returns (openingChecks l (lent .map) (lent .buffer)) lent (out.OpensOut l lent)
   pub station-take : (number l : ℕ) (frame : List ℕ) (lent : out.Counted)
-      → Returns (frameChecks (out.lentTo number l lent) frame) lent (out.TakesOut number l frame lent)
+      → Returns (takingOrder (out.lentTo number l lent) frame) lent (out.TakesOut number l frame lent)
   pub station-join : (number l : ℕ) (t : Reception) (lent : out.Counted)
       → Returns (joiningChecks (out.lentTo number l lent) t) lent (out.JoinsOut number l t lent)
   pub station-list : (l : ℕ) (map : List ℕ) (place : ℕ) (lent : Hole) → Returns (listingChecks l map place) lent (out.ListsOut l map place lent)
   pub station-save : (s : Reception) (lent : out.Sized) → Returns (savingChecks s (lent .target)) lent (out.SavesOut s lent)
   pub station-load : (saved : List ℕ) (lent : Reception) → Returns (loadingChecks saved (lent .map) (lent .buffer)) lent (out.LoadsOut saved lent)
-  pub station-piece : (frame : List ℕ) (lent : out.PieceNumbers) → Returns (pieceOrder frame) lent (out.PieceOut frame lent)
-  -- `station_entry` has two promises, of the entry's numbers and of its header's
-  pub station-entry : (frame : List ℕ) (lent : entry.EntryNumbers) → Returns (entryOrder frame) lent (entry.EntryOut frame lent)
-  pub station-entry-header : (frame : List ℕ) (lent : entry.HeaderNumbers) → Returns (entryOrder frame) lent (entry.HeaderOut frame lent)
-  pub station-header : (bytes : List ℕ) (number : ℕ) (lent : FileHeaderNumbers)
-      → Returns (headerChecks bytes number) lent (FileHeaderOut bytes number lent)
-  pub station-write-request : (w : Wanted) (place : ℕ) (lent : out.WrittenRequest)
-      → Returns (fillChecks w place (lent .target)) lent (out.FillsOut w place lent)
-  pub station-write-start : (head : Head) (number : ℕ) (lent : List ℕ) → Returns (startChecks head lent) lent (out.StartsOut head number lent)
-  pub station-read-request : (frame : List ℕ) (lent : out.RequestNumbers) → Returns (requestOrder frame) lent (out.RequestOut frame lent)
-  pub station-hole : (frame : List ℕ) (index : ℕ) (lent : Hole) → Returns (requestOrder frame) lent (out.HoleOut frame index lent)
+  pub station-piece : (frame lent : List ℕ) → Returns (pieceOrder frame) lent (PieceOut frame lent)
+  pub station-entry : (frame : List ℕ) (lent : EntryTold) → Returns (entryOrder frame) lent (EntryOut frame lent)
+  pub station-header : (bytes : List ℕ) (number : ℕ) (lent : HeaderTold) → Returns (headerChecks bytes number) lent (HeaderOut bytes number lent)
+  pub station-write-fill : (w : Wanted) (place : ℕ) (lent : WrittenRequest)
+      → Returns (fillChecks w place (lent .target)) lent (FillsOut w place lent)
+  pub station-write-start : (head : Head) (number : ℕ) (lent : List ℕ) → Returns (startChecks head lent) lent (StartsOut head number lent)
+  pub station-read-request : (frame lent : List ℕ) → Returns (requestOrder frame) lent (RequestOut frame lent)
+  pub station-hole : (frame : List ℕ) (index : ℕ) (lent : Hole) → Returns (requestOrder frame) lent (HoleOut frame index lent)
   -- Demand 3 is about what these leave: `station_open` and `station_load` where they return 0, `station_take` and `station_join` whatever they
   -- return; and the first bytes of the target of `station_save`, as many as it tells, are the record
   pub opens-it : (number l : ℕ) (lent left : Lent) (r : ℕ) → out.OpensOut l lent r left → r ≡ 0
@@ -77,10 +74,10 @@ pub record AtBoundary : Type 0 where
   pub loads-it : (saved : List ℕ) (lent left : Reception) (r : ℕ) → out.LoadsOut saved lent r left → r ≡ 0
       → left ≡ loaded saved (lent .map) (lent .buffer)
   -- where the bytes of a piece and the header of an entry are told to stand, there they stand: what `piece_bytes` and `header_bytes` hand out
-  pub piece-stands-there : (frame : List ℕ) (lent left : out.PieceNumbers) (r : ℕ) → out.PieceOut frame lent r left → r ≡ 0
-      → take (left .size) (drop (left .start) frame) ≡ pieceBytes frame
-  pub header-stands-there : (frame : List ℕ) (lent left : entry.EntryNumbers) (r : ℕ) → entry.EntryOut frame lent r left → r ≡ 0
-      → take (left .size) (drop (left .start) frame) ≡ headerBytes frame
+  pub piece-stands-there : (frame lent left : List ℕ) (r : ℕ) → PieceOut frame lent r left → r ≡ 0
+      → take (getD left 6 0) (drop (getD left 5 0) frame) ≡ pieceBytes frame
+  pub header-stands-there : (frame : List ℕ) (lent left : EntryTold) (r : ℕ) → EntryOut frame lent r left → r ≡ 0
+      → take (getD (left .told) 8 0) (drop (getD (left .told) 7 0) frame) ≡ headerBytes frame
   -- an address that can be written is told back by its number; a number of more than seven bytes tells none
   pub address-told-back : (a : Address) → isWritable a ≡ true → addressOf (addressNumber a) ≡ a
   pub too-large-a-number : (n : ℕ) → 256 ^ 7 ≤ n → isWritable (addressOf n) ≡ false

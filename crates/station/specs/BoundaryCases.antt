@@ -13,12 +13,12 @@ use Rattle.ax25.specs.Address.{isWritable}
 use Rattle.ax25.specs.Head.{headBytes}
 use Rattle.ax25.specs.Examples.{va3sfl, uosat5}
 use Rattle.header.specs.declared.Upload.the-variants.{Absent}
-use Rattle.frame.specs.Made.{pieceFrame}
+use Rattle.frame.specs.Making.{pieceFrame}
 use Rattle.request.specs.Writing.{Wanted}
 use Rattle.station.specs.AddressNumber.{addressNumber, addressOf}
-use Rattle.station.specs.Exports.{OpensOut, Counted, TakesOut, JoinsOut, ListsOut, SavesOut, LoadsOut, PieceNumbers, PieceOut, headTold, WrittenRequest, FillsOut, StartsOut, RequestNumbers, RequestOut, HoleOut}
-use Rattle.station.specs.EntryExports.{EntryNumbers, EntryOut, HeaderNumbers, HeaderOut, extensionNumber, uploadedOf, uploadOf}
-use Rattle.station.specs.HeaderExports.{FileHeaderNumbers, FileHeaderOut}
+use Rattle.station.specs.Exports.{OpensOut, Counted, TakesOut, JoinsOut, ListsOut, SavesOut, LoadsOut}
+use Rattle.station.specs.FrameExports.{PieceOut, EntryTold, EntryOut, HeaderTold, HeaderOut, extensionNumber, uploadedOf, uploadOf}
+use Rattle.station.specs.RequestExports.{headTold, WrittenRequest, FillsOut, StartsOut, RequestOut, HoleOut}
 use Rattle.station.specs.Cases.{twenty, front, middle, later}
 
 -- VA3SFL-0 and UOSAT5-11 as numbers
@@ -34,9 +34,6 @@ threeBytes =
     let head : Head = record { destination = va3sfl; source = uosat5 11 } in
     pieceFrame (record { head = head; number = 0x01020304; kind = 5; offset = 0x060708 }) (0x41 ∷ 0x42 ∷ 0x43 ∷ [])
 
-abbrev pub pieceLent : PieceNumbers
-pieceLent = record { destination = 9; source = 9; number = 9; kind = 9; offset = 9; start = 9; size = 9 }
-
 -- figure 3.2 with bytes that all differ in flags, number, times and item 01, and the sum to match
 abbrev pub entryFrame : List ℕ
 entryFrame =
@@ -44,32 +41,21 @@ entryFrame =
     ++ withCheck (0x60 ∷ 0x67 ∷ 0xAE ∷ 0x02 ∷ 0x01 ∷ 0x00 ∷ 0x00 ∷ 0x00 ∷ 0x00 ∷ 0x11 ∷ 0x12 ∷ 0x13 ∷ 0x14 ∷ 0x21 ∷ 0x22 ∷ 0x23 ∷ 0x24 ∷ []
     ++ set (set (set (drop 17 figure32) 7 0x02) 8 0x01) 70 0x87)
 
-abbrev pub entryLent : EntryNumbers
-entryLent = record { destination = 9; source = 9; flags = 9; number = 9; offset = 9; old = 9; new = 9; start = 9; size = 9 }
+abbrev pub entryLent : EntryTold
+entryLent = record { told = replicate 9 9; values = replicate 12 9 }
 
-abbrev pub headerLent : HeaderNumbers
-headerLent = record {
-  name = 9;
-  extension = 9;
-  size = 9;
-  created = 9;
-  modified = 9;
-  upset = 9;
-  kind = 9;
-  bodysum = 9;
-  headersum = 9;
-  body = 9;
-  uploaded = 9;
-  upload = 9;
-}
+-- the values of figure 3.2's header, with a sum and the body's offset
+abbrev pub figureValues : ℕ → ℕ → List ℕ
+figureValues sum body =
+    0x3432313139394C42 ∷ 0x202020 ∷ 0x06E0 ∷ 0x383B2D49 ∷ 0x383C7EE1 ∷ 0 ∷ 0xCA ∷ 0x44FB ∷ sum ∷ body ∷ 1 ∷ 0x383C7EE0 ∷ []
 
 -- the start of a file: the header of figure 3.2 with item 0B beyond the header's length, so that the two differ, and the sum to match;
 -- two bytes more behind it
 abbrev pub fileStart : List ℕ
 fileStart = set (set (drop 17 figure32) 75 0x60) 70 0x94 ++ 0x41 ∷ 0x42 ∷ []
 
-abbrev pub fileHeaderLent : FileHeaderNumbers
-fileHeaderLent = record { length = 9; values = headerLent }
+abbrev pub headerLent : HeaderTold
+headerLent = record { size = 9; values = replicate 12 9 }
 
 -- lent for a count, a map and a buffer
 abbrev pub counted : ℕ → List ℕ → List ℕ → Counted
@@ -88,9 +74,6 @@ requestLent = record { count = 9; end = 9; target = replicate 30 9 }
 -- one with two holes
 abbrev pub twoHoles : List ℕ
 twoHoles = askedHead ++ 0x11 ∷ 0x07 ∷ 0x00 ∷ 0x00 ∷ 0x00 ∷ 0xF4 ∷ 0x00 ∷ 0x04 ∷ 0x00 ∷ 0x00 ∷ 0x05 ∷ 0x00 ∷ 0x0A ∷ 0x00 ∷ 0x00 ∷ 0x08 ∷ 0x00 ∷ []
-
-abbrev pub requestNumbersLent : RequestNumbers
-requestNumbersLent = record { destination = 9; source = 9; flags = 9; number = 9; count = 9 }
 
 -- the record of 01's hole program
 abbrev pub sample : List ℕ
@@ -120,47 +103,17 @@ pub record BoundaryCases : Type 0 where
         map = 0x0F ∷ 0x03 ∷ 0x00 ∷ 9 ∷ [];
         buffer = 0x41 ∷ 0x42 ∷ 0x43 ∷ 0x44 ∷ 0 ∷ 0 ∷ 0 ∷ 0 ∷ 0x45 ∷ 0x46 ∷ replicate 10 0 ++ 9 ∷ [];
       })
-  pub piece-out : PieceOut threeBytes pieceLent 0
-      (record { destination = va3sflNumber; source = uosat5Number; number = 0x01020304; kind = 5; offset = 0x060708; start = 25; size = 3 })
-  pub piece-refused : PieceOut [] pieceLent 1 pieceLent
+  pub piece-out : PieceOut threeBytes (replicate 7 9) 0 (va3sflNumber ∷ uosat5Number ∷ 0x01020304 ∷ 5 ∷ 0x060708 ∷ 25 ∷ 3 ∷ [])
+  pub piece-refused : PieceOut [] (replicate 7 9) 1 (replicate 7 9)
   pub entry-out : EntryOut entryFrame entryLent 0
-      (record { destination = va3sflNumber; source = uosat5Number; flags = 0x60; number = 0x0102AE67; offset = 0; old = 0x14131211; new = 0x24232221; start = 33; size = 80 })
-  pub header-out : HeaderOut entryFrame
-      headerLent 0
       (record {
-        name = 0x3432313139394C42;
-        extension = 0x202020;
-        size = 0x06E0;
-        created = 0x383B2D49;
-        modified = 0x383C7EE1;
-        upset = 0;
-        kind = 0xCA;
-        bodysum = 0x44FB;
-        headersum = 0x0C87;
-        body = 0x50;
-        uploaded = 1;
-        upload = 0x383C7EE0;
+        told = va3sflNumber ∷ uosat5Number ∷ 0x60 ∷ 0x0102AE67 ∷ 0 ∷ 0x14131211 ∷ 0x24232221 ∷ 33 ∷ 80 ∷ [];
+        values = figureValues 0x0C87 0x50;
       })
-  pub file-header-out : FileHeaderOut fileStart 0xAE67 fileHeaderLent 0
-      (record {
-        length = 80;
-        values = record {
-          name = 0x3432313139394C42;
-          extension = 0x202020;
-          size = 0x06E0;
-          created = 0x383B2D49;
-          modified = 0x383C7EE1;
-          upset = 0;
-          kind = 0xCA;
-          bodysum = 0x44FB;
-          headersum = 0x0C94;
-          body = 0x60;
-          uploaded = 1;
-          upload = 0x383C7EE0;
-        };
-      })
-  pub file-header-of-another : FileHeaderOut fileStart 0xAE68 fileHeaderLent 8 fileHeaderLent
-  pub file-header-broken : FileHeaderOut (set fileStart 70 0x84) 0xAE67 fileHeaderLent 8 fileHeaderLent
+  pub header-out : HeaderOut fileStart 0xAE67 headerLent 0
+      (record { size = 80; values = figureValues 0x0C94 0x60 })
+  pub header-of-another : HeaderOut fileStart 0xAE68 headerLent 8 headerLent
+  pub header-broken : HeaderOut (set fileStart 70 0x84) 0xAE67 headerLent 8 headerLent
   pub extension-out : extensionNumber (record { c0 = 1; c1 = 2; c2 = 3 }) ≡ 0x030201
   pub no-upload : (uploadedOf Absent ≡ 0) × (uploadOf Absent ≡ 0)
   pub write-request-out : FillsOut (asked uosat5Number) 0 requestLent 0
@@ -168,7 +121,6 @@ pub record BoundaryCases : Type 0 where
   pub write-request-refused : FillsOut (asked (256 ^ 7 + uosat5Number)) 0 requestLent 2 requestLent
   pub write-start-out : StartsOut (headTold uosat5Number va3sflNumber) 7 (replicate 24 9) 0
       (askedHead ++ 0x10 ∷ 0x07 ∷ 0x00 ∷ 0x00 ∷ 0x00 ∷ 0xF4 ∷ 0x00 ∷ 9 ∷ [])
-  pub read-request-out : RequestOut twoHoles requestNumbersLent 0
-      (record { destination = uosat5Number; source = va3sflNumber; flags = 0x11; number = 7; count = 2 })
+  pub read-request-out : RequestOut twoHoles (replicate 5 9) 0 (uosat5Number ∷ va3sflNumber ∷ 0x11 ∷ 7 ∷ 2 ∷ [])
   pub hole-out : HoleOut twoHoles 1 (record { start = 9; length = 9 }) 0 (record { start = 10; length = 8 })
   pub hole-beyond : HoleOut twoHoles 2 (record { start = 9; length = 9 }) 0 (record { start = 0; length = 0 })

@@ -14,11 +14,11 @@ use Rattle.ax25.specs.Examples.{va3sfl, va3sflBytes, uosat5, uosat5Bytes}
 use Rattle.header.specs.Header.{headerSum}
 use Rattle.header.specs.Figure.{figure31}
 use Rattle.frame.specs.Piece.{readPiece}
-use Rattle.frame.specs.Made.{pieceFrame}
+use Rattle.frame.specs.Making.{pieceFrame}
 use Rattle.reception.specs.Reception.{Reception}
 use Rattle.reception.specs.Opening.{opening, opened}
 use Rattle.reception.specs.Joining.{joining, joined}
-use Rattle.reception.specs.EveryHole.{listedFrom}
+use Rattle.holes.specs.EveryHole.{listedFrom}
 use Rattle.request.specs.Writing.{Wanted, filling, fillFrame}
 use Rattle.station.specs.Taking.{takingFrame}
 use Rattle.station.specs.Sequences.{takenFrames}

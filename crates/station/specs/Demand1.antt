@@ -8,7 +8,7 @@ use mathlib.Core.Bool.{not}
 use mathlib.Core.List.{List, [], _∷_}
 use Prim.Native.Nat.{ℕ, _≤_}
 use lib.ListN.{length}
-use Rattle.reason.specs.Answer.{Answer, accepted, refused, outcome, Wrote}
+use Rattle.reason.specs.Answer.{Answer, accepted, refused, outcome, Writes}
 use Rattle.reason.specs.Order.{Check, check, First, NoneHolds}
 use Rattle.ax25.specs.declared.Address.{Address}
 use Rattle.ax25.specs.declared.Role.{Role}
@@ -18,21 +18,21 @@ use Rattle.ax25.specs.Head.{headChecks, headOf, readHead, headAnswer, headWrite
 use Rattle.header.specs.Header.{headerChecks, headerOf, readHeader, headerAnswer}
 use Rattle.frame.specs.Piece.{pieceOrder, pieceOf, readPiece, pieceAnswer}
 use Rattle.frame.specs.Entry.{entryOrder, entryOf, readEntry, entryAnswer}
-use Rattle.reception.specs.Reception.{Reception, Piece}
+use Rattle.reception.specs.Reception.{Reception, PieceData}
 use Rattle.reception.specs.Adding.{addedAnswer}
 use Rattle.reception.specs.Opening.{openingChecks, Opens}
 use Rattle.reception.specs.Taking.{takingChecks, takenNew, Takes}
 use Rattle.reception.specs.Joining.{joiningChecks, joinedNew, Joins}
-use Rattle.reception.specs.Holes.{holeFrom}
-use Rattle.reception.specs.Listing.{listingChecks, listing, listedAnswer}
-use Rattle.reception.specs.EveryHole.{lastEnd}
+use Rattle.holes.specs.Holes.{holeFrom}
+use Rattle.holes.specs.Listing.{listingChecks, listing, listedAnswer}
+use Rattle.holes.specs.EveryHole.{lastEnd}
 use Rattle.request.specs.Reading.{requestOrder, requestOf, readRequest, requestAnswer}
 use Rattle.request.specs.Writing.{Wanted, holesFrom, fillChecks, filledAnswer, Fills, startChecks, starting}
 use Rattle.record.specs.Record.{recordLength}
 use Rattle.record.specs.Saving.{savingChecks, savedAnswer, Saves}
 use Rattle.record.specs.Reading.{isRecord, recordedIn, readRecord, recordAnswer}
 use Rattle.record.specs.Loading.{loadingChecks, Loads}
-use Rattle.station.specs.Taking.{pieceIn, frameChecks, TakesFrame}
+use Rattle.station.specs.Taking.{pieceDataIn, takingOrder, TakesFrame}
 use Rattle.station.specs.Lent.{Lent, receptionIn}
 
 -- the numbered reasons are 1 to 15
@@ -71,10 +71,10 @@ pub record Demand1 : Type 0 where
       → Answers (requestOrder frame) (requestOf frame) requestAnswer nothing (λ r left. requestAnswer r ≡ readRequest frame)
   -- "Taking in a piece: the frame's reasons, then 7 (L), 12, 9, 10, 11"
   pub takes : (number l : ℕ) (lent : Lent) (frame : List ℕ) → let s = receptionIn number l lent in
-      Answers (frameChecks s frame) (takenNew s (pieceIn frame)) addedAnswer lent
+      Answers (takingOrder s frame) (takenNew s (pieceDataIn frame)) addedAnswer lent
       (λ r left. TakesFrame s frame r (left .map) (left .buffer))
   -- .. and of a piece that was read before: 7 (L), 12, 9, 10, 11
-  pub takes-piece : (number l : ℕ) (lent : Lent) (x : Piece) → let s = receptionIn number l lent in
+  pub takes-piece : (number l : ℕ) (lent : Lent) (x : PieceData) → let s = receptionIn number l lent in
       Answers (takingChecks s x) (takenNew s x) addedAnswer lent (λ r left. Takes s x r (left .map) (left .buffer))
   -- "Opening: 7, 12"
   pub opens : (l : ℕ) (lent : Lent)
@@ -92,7 +92,7 @@ pub record Demand1 : Type 0 where
       target (Fills w place target)
   -- "A start request: 2, 12"
   pub starts : (head : Head) (number : ℕ) (target : List ℕ)
-      → Answers (startChecks head target) tt outcome target (Wrote target (starting head number target))
+      → Answers (startChecks head target) tt outcome target (Writes target (starting head number target))
   -- "Saving: 7, 12"
   pub saves : (s : Reception) (target : List ℕ)
       → Answers (savingChecks s target) (recordLength (s .length)) savedAnswer target (Saves s target)
@@ -107,10 +107,10 @@ pub record Demand1 : Type 0 where
   pub reads-address : (role : Role) (s : List ℕ) (at : ℕ)
       → Answers (addressReadChecks role s at) (addressAt s at) addressAnswer nothing (λ r left. addressAnswer r ≡ readAddress role s at)
   pub writes-address : (role : Role) (out : List ℕ) (at : ℕ) (a : Address)
-      → Answers (addressWriteChecks role out at a) tt outcome out (Wrote out (writeAddress role out at a))
+      → Answers (addressWriteChecks role out at a) tt outcome out (Writes out (writeAddress role out at a))
   pub reads-head : (protocol : ℕ) (frame : List ℕ)
       → Answers (headChecks protocol frame) (headOf frame) headAnswer nothing (λ r left. headAnswer r ≡ readHead protocol frame)
   pub writes-head : (out : List ℕ) (destination source : Address) (protocol : ℕ)
-      → Answers (headWriteChecks out destination source) tt outcome out (Wrote out (writeHead out destination source protocol))
+      → Answers (headWriteChecks out destination source) tt outcome out (Writes out (writeHead out destination source protocol))
   pub reads-header : (s : List ℕ) (number : ℕ)
       → Answers (headerChecks s number) (headerOf s) headerAnswer nothing (λ r left. headerAnswer r ≡ readHeader s number)

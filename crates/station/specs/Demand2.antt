@@ -22,13 +22,13 @@ use Rattle.frame.specs.declared.Piece.{Piece}
 use Rattle.frame.specs.declared.Entry.{Entry}
 use Rattle.frame.specs.Piece.{readPiece, pieceBytes}
 use Rattle.frame.specs.Entry.{headerPart, entryOf, readEntry}
-use Rattle.frame.specs.Made as pieces
+use Rattle.frame.specs.Making.{pieceFrame, MakeablePiece}
 use Rattle.frame.specs.Says.{PieceSays, EntrySays, EntryRules}
-use Rattle.reception.specs.declared.Hole.{Hole}
+use Rattle.holes.specs.declared.Hole.{Hole}
 use Rattle.reception.specs.Reception.{Reception, longest, wrongLength, shortSpace}
-use Rattle.reception.specs.Holes.{IsHole}
-use Rattle.reception.specs.Listing.{listing}
-use Rattle.reception.specs.EveryHole.{lastEnd}
+use Rattle.holes.specs.Holes.{IsHole}
+use Rattle.holes.specs.Listing.{listing}
+use Rattle.holes.specs.EveryHole.{lastEnd}
 use Rattle.request.specs.declared.Asks.{Asks}
 use Rattle.request.specs.declared.Asks.the-variants.{Start, Holes}
 use Rattle.request.specs.declared.Request.{Request}
@@ -36,13 +36,13 @@ use Rattle.request.specs.declared.Written.{Written}
 use Rattle.request.specs.Request.{frameLength, requestFrame}
 use Rattle.request.specs.Reading.{readRequest, noHole, holeAt, holesOf}
 use Rattle.request.specs.Writing.{Wanted, holesFrom, filling, fillFrame, starting}
-use Rattle.request.specs.Made.{Makeable}
+use Rattle.request.specs.Making.{MakeableRequest}
 use Rattle.request.specs.Run.{sent, sentFrom, placeAfter, Whole, names, allBut, naming}
 use Rattle.request.specs.Says.{RequestSays}
 use Rattle.record.specs.declared.Recorded.{Recorded}
 use Rattle.record.specs.Record.{recordOf, recordLength}
 use Rattle.record.specs.Saving.{saving}
-use Rattle.record.specs.Reading.{numberIn, lengthIn, mapIn, bytesIn, isRecord, readRecord}
+use Rattle.record.specs.Reading.{numberIn, lengthIn, mapIn, bufferIn, isRecord, readRecord}
 use Rattle.record.specs.Says.{RecordSays}
 use Rattle.record.specs.Loading.{loading, loaded}
 use Rattle.record.specs.GivenBack.{GivesBack}
@@ -67,10 +67,10 @@ pub record Demand2 : Type 0 where
   -- handed out are its own; and every accepted frame is the one that its fields and bytes make, so that it has one meaning, and these can
   -- be made: the accepted frames are exactly those that a satellite makes.
   pub piece-says : (frame : List ℕ) (p : Piece) → readPiece frame ≡ accepted p → PieceSays frame p
-  pub piece-is-read : (p : Piece) (bytes : List ℕ) → pieces.Makeable p bytes
-      → (readPiece (pieces.pieceFrame p bytes) ≡ accepted p) × (pieceBytes (pieces.pieceFrame p bytes) ≡ bytes)
+  pub piece-is-read : (p : Piece) (bytes : List ℕ) → MakeablePiece p bytes
+      → (readPiece (pieceFrame p bytes) ≡ accepted p) × (pieceBytes (pieceFrame p bytes) ≡ bytes)
   pub piece-is-made : (frame : List ℕ) (p : Piece) → AllBytes frame → readPiece frame ≡ accepted p
-      → (pieces.pieceFrame p (pieceBytes frame) ≡ frame) × pieces.Makeable p (pieceBytes frame)
+      → (pieceFrame p (pieceBytes frame) ≡ frame) × MakeablePiece p (pieceBytes frame)
   -- ---- Directory entries: both addresses, all fields, and the value of each mandatory item and of item 12.
   -- An entry is accepted exactly if it keeps every rule; reason 8 says that the header breaks one, or that something follows it.
   pub entry-says : (frame : List ℕ) (e : Entry) → readEntry frame ≡ accepted e → EntrySays frame e
@@ -92,11 +92,11 @@ pub record Demand2 : Type 0 where
   -- ---- Requests: an accepted frame says its bytes at their places; what is written is read, field by field and hole by hole; and every
   -- accepted frame is the one that its fields and holes make, and what the writers write for them.
   pub request-says : (frame : List ℕ) (r : Request) → readRequest frame ≡ accepted r → RequestSays frame r
-  pub request-is-read : (head : Head) (asks : Asks) (number : ℕ) (holes : List Hole) → Makeable head asks number holes
+  pub request-is-read : (head : Head) (asks : Asks) (number : ℕ) (holes : List Hole) → MakeableRequest head asks number holes
       → (readRequest (requestFrame head asks number holes) ≡ accepted (record { head = head; asks = asks; number = number; count = length holes }))
       × ((index : ℕ) → holeAt (requestFrame head asks number holes) index ≡ getD holes index noHole)
   pub request-is-made : (frame : List ℕ) (r : Request) → AllBytes frame → readRequest frame ≡ accepted r
-      → (requestFrame (r .head) (r .asks) (r .number) (holesOf frame) ≡ frame) × Makeable (r .head) (r .asks) (r .number) (holesOf frame)
+      → (requestFrame (r .head) (r .asks) (r .number) (holesOf frame) ≡ frame) × MakeableRequest (r .head) (r .asks) (r .number) (holesOf frame)
   pub fill-is-read : (w : Wanted) (place : ℕ) (target : List ℕ) (x : Written) → filling w place target ≡ accepted x → w .number < 256 ^ 4
       → (readRequest (sent w place target x) ≡ accepted (record { head = w .head; asks = Holes; number = w .number; count = x .count }))
       × (holesOf (sent w place target x) ≡ holesFrom w place)
@@ -132,4 +132,4 @@ pub record Demand2 : Type 0 where
       → (recordOf (loaded saved map buffer) ≡ saved)
       × ((target : List ℕ) → recordLength (lengthIn saved) ≤ length target → saving (loaded saved map buffer) target ≡ accepted (length saved))
   pub one-record : (r q : List ℕ) → AllBytes r → AllBytes q → isRecord r ≡ true → isRecord q ≡ true → numberIn r ≡ numberIn q
-      → lengthIn r ≡ lengthIn q → mapIn r ≡ mapIn q → bytesIn r ≡ bytesIn q → r ≡ q
+      → lengthIn r ≡ lengthIn q → mapIn r ≡ mapIn q → bufferIn r ≡ bufferIn q → r ≡ q

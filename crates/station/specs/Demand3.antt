@@ -8,18 +8,19 @@ use Prim.Native.Nat.{ℕ, _^_, _≤_, _<_}
 use lib.ListN.{length, take, drop}
 use Rattle.reason.specs.Answer.{accepted, refused}
 use Rattle.reason.specs.declared.Outcome.{Outcome}
+use Rattle.octets.specs.Lists.{OneOf}
 use Rattle.octets.specs.Numbers.{AllBytes}
 use Rattle.positions.specs.Spans.{count}
 use Rattle.positions.specs.Map.{held, mapSize}
 use Rattle.reception.specs.declared.Added.{Added}
-use Rattle.reception.specs.declared.Hole.{Hole}
+use Rattle.holes.specs.declared.Hole.{Hole}
 use Rattle.reception.specs.Reception.{Reception, shortSpace}
 use Rattle.reception.specs.Opening.{opening, opened, Opens}
 use Rattle.reception.specs.Joining.{joining, joined, Joins}
-use Rattle.reception.specs.Sequences.{AgreesWith}
-use Rattle.reception.specs.Holes.{IsHole}
-use Rattle.reception.specs.Listing.{listing}
-use Rattle.reception.specs.EveryHole.{listedFrom, AllHoles, InHole}
+use Rattle.reception.specs.Fitting.{AgreesWith}
+use Rattle.holes.specs.Holes.{IsHole}
+use Rattle.holes.specs.Listing.{listing}
+use Rattle.holes.specs.EveryHole.{listedFrom, AllHoles, InHole}
 use Rattle.reception.specs.Contents.{HoldsOf, itself, beyond}
 use Rattle.record.specs.declared.Saved.{Saved}
 use Rattle.record.specs.declared.RecordRead.{RecordRead}
@@ -28,8 +29,8 @@ use Rattle.record.specs.Saving.{savedAnswer, Saves}
 use Rattle.record.specs.Reading.{recordAnswer}
 use Rattle.record.specs.Loading.{loaded, Loads}
 use Rattle.station.specs.Lent.{Lent, receptionIn}
-use Rattle.station.specs.Taking.{pieceIn, takingFrame, takenFrame, TakesFrame}
-use Rattle.station.specs.Sequences.{takenFrames, inPiece, coveredIn, fitsFile, covered, Among}
+use Rattle.station.specs.Taking.{pieceDataIn, takingFrame, takenFrame, TakesFrame}
+use Rattle.station.specs.Sequences.{takenFrames, inPiece, coveredIn, fitsFile, covered}
 use Rattle.station.specs.Stations.{Station, fresh, receptionOf, Made, framesIn}
 use Rattle.station.specs.Calls.{Calls}
 
@@ -63,7 +64,7 @@ pub record Demand3 (number l : ℕ) (file : List ℕ) : Type 0 where
   pub same-coverage : (a b : Station number l file) → ((p : ℕ) → covered number l (a .frames) p ≡ covered number l (b .frames) p)
       → itself (receptionOf a) ≡ itself (receptionOf b)
   -- A repeated piece does not spoil the file: a frame that was taken in before counts 0 and changes nothing.
-  pub repeat-counts-0 : (a : Station number l file) (frame : List ℕ) → Among frame (a .frames) → fitsFile number l frame ≡ true
+  pub repeat-counts-0 : (a : Station number l file) (frame : List ℕ) → OneOf frame (a .frames) → fitsFile number l frame ≡ true
       → (takingFrame (receptionOf a) frame ≡ accepted 0) × (takenFrame (receptionOf a) frame ≡ receptionOf a)
   -- Lent space beyond the ceil(L/8) bytes of the map and the L bytes of the buffer never changes.
   pub beyond-unchanged : (a : Station number l file)
@@ -85,9 +86,9 @@ pub record Demand3 (number l : ℕ) (file : List ℕ) : Type 0 where
   -- A frame that fits and agrees is accepted, and the count is that of its positions that are not held yet: 0 if all are, and then nothing
   -- changes. Any other frame is refused, and changes nothing.
   pub fitting-is-taken : (s : Reception) → Made number l file s → (frame : List ℕ) → fitsFile number l frame ≡ true
-      → AgreesWith file (pieceIn frame)
-      → takingFrame s frame ≡ accepted (count (λ p. not (held (s .map) p)) (pieceIn frame .offset) (length (pieceIn frame .bytes)))
-  pub held-counts-0 : (s : Reception) → Made number l file s → (frame : List ℕ) → fitsFile number l frame ≡ true → AgreesWith file (pieceIn frame)
+      → AgreesWith file (pieceDataIn frame)
+      → takingFrame s frame ≡ accepted (count (λ p. not (held (s .map) p)) (pieceDataIn frame .offset) (length (pieceDataIn frame .bytes)))
+  pub held-counts-0 : (s : Reception) → Made number l file s → (frame : List ℕ) → fitsFile number l frame ≡ true → AgreesWith file (pieceDataIn frame)
       → ((p : ℕ) → inPiece frame p ≡ true → held (s .map) p ≡ true)
       → (takingFrame s frame ≡ accepted 0) × (takenFrame s frame ≡ s)
   pub other-is-refused : (s : Reception) → Made number l file s → (frame : List ℕ) → fitsFile number l frame ≡ false

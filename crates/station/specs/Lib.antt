@@ -3,8 +3,8 @@ pub mod Lent
 pub mod Boundary
 pub mod AddressNumber
 pub mod Exports
-pub mod EntryExports
-pub mod HeaderExports
+pub mod FrameExports
+pub mod RequestExports
 pub mod Sequences
 pub mod Stations
 pub mod Calls

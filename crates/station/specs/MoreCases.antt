@@ -6,15 +6,16 @@ use mathlib.Core.List.{List, [], _∷_, _++_}
 use Prim.Native.Nat.{ℕ}
 use lib.ListN.{set, take, replicate}
 use Rattle.reason.specs.Answer.{accepted, refused}
+use Rattle.octets.specs.Lists.{OneOf}
 use Rattle.ax25.specs.Examples.{va3sfl, uosat5}
-use Rattle.frame.specs.Made.{pieceFrame}
+use Rattle.frame.specs.Making.{pieceFrame}
 use Rattle.reception.specs.Reception.{Reception}
 use Rattle.reception.specs.Joining.{joined}
-use Rattle.reception.specs.Listing.{listing}
+use Rattle.holes.specs.Listing.{listing}
 use Rattle.record.specs.Record.{recordOf}
 use Rattle.record.specs.Loading.{loaded}
 use Rattle.station.specs.Taking.{takingFrame, takenFrame}
-use Rattle.station.specs.Sequences.{coveredIn, Among}
+use Rattle.station.specs.Sequences.{coveredIn}
 use Rattle.station.specs.Stations.{Station, receptionOf, Made}
 use Rattle.station.specs.Cases.{frameAt, twenty, longestFile, front}
 use Rattle.station.specs.BoundaryCases.{entryFrame}
@@ -51,7 +52,7 @@ pub record MoreCases : Type 0 where
   -- what is joined, saved and loaded and then takes a frame in is among the receptions of demand 3
   pub a-reception-handed-on : Made 7 20 file handedOn
   pub handed-on-map : handedOn .map ≡ 0x0F ∷ 0x0C ∷ 0x0C ∷ 0xFF ∷ []
-  pub among-any : (frame : List ℕ) (before behind : List (List ℕ)) → Among frame (before ++ frame ∷ behind)
+  pub among-any : (frame : List ℕ) (before behind : List (List ℕ)) → OneOf frame (before ++ frame ∷ behind)
   -- a refused frame stores and covers nothing, and frames are taken in their order
   pub differing-leaves : takenFrame (twenty (front ∷ [])) differing ≡ twenty (front ∷ [])
   pub refused-covers-nothing : coveredIn (twenty []) (front ∷ differing ∷ []) 4 ≡ false

@@ -10,12 +10,12 @@ use Rattle.frame.specs.Entry.{entryOrder}
 use Rattle.reception.specs.Reception.{Reception}
 use Rattle.reception.specs.Opening.{openingChecks}
 use Rattle.reception.specs.Joining.{joiningChecks}
-use Rattle.reception.specs.Listing.{listingChecks}
+use Rattle.holes.specs.Listing.{listingChecks}
 use Rattle.request.specs.Reading.{requestOrder}
 use Rattle.request.specs.Writing.{Wanted, fillChecks, startChecks}
 use Rattle.record.specs.Saving.{savingChecks}
 use Rattle.record.specs.Loading.{loadingChecks}
-use Rattle.station.specs.Taking.{frameChecks}
+use Rattle.station.specs.Taking.{takingOrder}
 
 -- the numbers of checks, in their order
 abbrev pub numbersOf : List Check → List ℕ
@@ -31,7 +31,7 @@ pub record Orders : Type 0 where
   pub in-a-request : (frame : List ℕ) → numbersOf (requestOrder frame) ≡ 1 ∷ 2 ∷ 3 ∷ 4 ∷ 7 ∷ 1 ∷ 5 ∷ 7 ∷ 10 ∷ []
   -- "Taking in a piece: the frame's reasons, then 7 (L), 12, 9, 10, 11"
   pub in-taking : (s : Reception) (frame : List ℕ)
-      → numbersOf (frameChecks s frame) ≡ 1 ∷ 2 ∷ 3 ∷ 4 ∷ 7 ∷ 1 ∷ 6 ∷ 5 ∷ 7 ∷ 7 ∷ 12 ∷ 9 ∷ 10 ∷ 11 ∷ []
+      → numbersOf (takingOrder s frame) ≡ 1 ∷ 2 ∷ 3 ∷ 4 ∷ 7 ∷ 1 ∷ 6 ∷ 5 ∷ 7 ∷ 7 ∷ 12 ∷ 9 ∷ 10 ∷ 11 ∷ []
   -- "Opening: 7, 12. Joining: 7 and 12 (each for either reception), 9, 11. Listing: 7, 12, 15"
   pub in-opening : (l : ℕ) (map buffer : List ℕ) → numbersOf (openingChecks l map buffer) ≡ 7 ∷ 12 ∷ []
   pub in-joining : (s t : Reception) → numbersOf (joiningChecks s t) ≡ 7 ∷ 12 ∷ 9 ∷ 11 ∷ []

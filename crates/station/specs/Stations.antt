@@ -9,11 +9,10 @@ use Rattle.octets.specs.Numbers.{AllBytes}
 use Rattle.reception.specs.Reception.{Reception, shortSpace}
 use Rattle.reception.specs.Opening.{opening, opened}
 use Rattle.reception.specs.Joining.{joined}
-use Rattle.reception.specs.Sequences.{AgreesWith}
 use Rattle.record.specs.Record.{recordOf}
 use Rattle.record.specs.Loading.{loaded}
-use Rattle.station.specs.Taking.{pieceIn, takenFrame}
-use Rattle.station.specs.Sequences.{takenFrames, fitsFile, AllAgree}
+use Rattle.station.specs.Taking.{takenFrame}
+use Rattle.station.specs.Sequences.{takenFrames, AgreesIfFits, AllAgree}
 
 -- A station: the map (a list of bytes) and the buffer that it was lent, of any length in which the file opens, and the frames that it
 -- takes in, of which every piece that fits the file agrees with it. Loss, repeats and order are free.
@@ -38,8 +37,7 @@ pub data Made (number l : ℕ) (file : List ℕ) : Reception → Type 0 where
   -- the file is opened in a map (a list of bytes) and a buffer, of any length in which it opens
   by-opening : (map buffer : List ℕ) → AllBytes map → opening l map buffer ≡ accepted tt → Made number l file (opened number l map buffer)
   -- a frame is taken in, and accepted or refused; if it is a piece that fits the file, it agrees with it
-  by-taking : (s : Reception) (frame : List ℕ) → Made number l file s → (fitsFile number l frame ≡ true → AgreesWith file (pieceIn frame))
-      → Made number l file (takenFrame s frame)
+  by-taking : (s : Reception) (frame : List ℕ) → Made number l file s → AgreesIfFits number l file frame → Made number l file (takenFrame s frame)
   -- another is joined into it
   by-joining : (s t : Reception) → Made number l file s → Made number l file t → Made number l file (joined s t)
   -- it is saved, and its record is loaded into a map (a list of bytes) and a buffer, of any length that is enough; the file's number has

@@ -8,7 +8,7 @@
 //   take           takes a frame into a reception                 the frame's, 7, 12, 9,     station, specs/Taking
 //                                                                 10, 11
 //   join           puts a second reception into the first         7, 12, 9, 11               reception, specs/Joining
-//   list           the first hole at a place or later             7, 12, 15                  reception, specs/Listing
+//   list           the first hole at a place or later             7, 12, 15                  holes, specs/Listing
 //   is_held,       a position of a file, and how many             –                          reception, specs/Held
 //   count_held
 //   read_piece     a frame as a file piece                        1, 2, 3, 4, 7, 1, 6, 5, 7  frame, specs/Piece
@@ -32,16 +32,19 @@
 //   map_of         its map, a part of the record                  –                          record, specs/Reading
 //
 // An operation answers its values, or one numbered reason in the order above and then no lent byte has
-// changed; none asks anything of its caller. `boundary.rt`, `entry_boundary.rt` and `header_boundary.rt` have
-// the same operations for a host program, on numbers and byte slices alone (specs/Exports, specs/EntryExports,
-// specs/HeaderExports).
+// changed; none asks anything of its caller. `boundary.rt`, `frame_boundary.rt` and `request_boundary.rt` have
+// the same operations for a host program, on numbers and byte slices alone (specs/Exports, specs/FrameExports,
+// specs/RequestExports).
 //
 // The operations that these are made of have promises of their own:
 //
 //   ax25       writable, read_address, write_address (specs/Address), read_head, write_head (specs/Head)
 //   header     decide, Cursor::first, Cursor::step (specs/Items)
-//   reception  take, of a piece that was read (specs/Taking), wrong_length, short (specs/Reception), map_size
-//              (positions, specs/Map)
+//   reception  take, of a piece that was read (specs/Taking), wrong_length, short, short_map (specs/Reception),
+//              map_size (positions, specs/Map)
+//   runs       piece_agrees, put_piece, both_agree, add_held (specs/Offers)
+//   positions  is_set, lowest, count_set, is_held, mark (specs/Map), count_held, first_held, first_unheld
+//              (specs/Spans)
 //   remainder  remainder (specs/Remainder), check_right (specs/Check)
 //   octets     byte, number2, number3, number4, bytes2, bytes3, bytes4 (specs/Numbers), put (specs/Runs)
 //
@@ -52,9 +55,10 @@
 // `specs/Demand2.antt` and `specs/Demand3.antt`, and are proved in `proofs/` under the same names; the
 // orders stand as 01, the customer's rules, prints them in `specs/Orders.antt`, its worked cases in
 // `specs/Cases.antt`. That no second answer meets a promise is in `proofs/OnlyOne.antt` of each crate.
+mod addresses;
 pub mod boundary;
-pub mod entry_boundary;
-pub mod header_boundary;
+pub mod frame_boundary;
+pub mod request_boundary;
 
 use frame::PieceRead;
 pub use frame::header_bytes;
@@ -65,11 +69,11 @@ pub use frame::read_entry;
 pub use frame::read_piece;
 pub use header::item_bytes;
 pub use header::read_header;
+pub use holes::list;
 pub use reception::Added;
 pub use reception::count_held;
 pub use reception::is_held;
 pub use reception::join;
-pub use reception::list;
 pub use reception::open;
 pub use record::load;
 pub use record::map_of;

@@ -43,9 +43,9 @@ fn agrees(reception: &Reception, file: &[u8], header: Option<&Header>) -> String
         Some(header) => header,
     };
     let name = headers::name(header);
-    if header.size != reception.length() {
-        let size = counted(header.size as usize, "byte");
-        return format!("its header says `{name}` and {size} in all, which it has not: look where it came from");
+    if header.length != reception.length() {
+        let length = counted(header.length as usize, "byte");
+        return format!("its header says `{name}` and {length} in all, which it has not: look where it came from");
     }
     let (said, sum) = (header.bodysum, headers::sum(body(file, header).unwrap_or(&[])));
     if said == sum {

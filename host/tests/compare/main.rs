@@ -77,7 +77,7 @@ themes! {
     takes          5_000    350_000 [TAKE]
     joins          3_000    100_000 [JOIN]
     holes          1_200    250_000 [LIST, IS_HELD, COUNT_HELD]
-    written        3_000    180_000 [WRITE_REQUEST, WRITE_START]
+    written        3_000    180_000 [WRITE_FILL, WRITE_START]
     records        1_500    200_000 [SAVE, LOAD]
     numbers        4_000    100_000 [REMAINDER, IS_HELD, COUNT_HELD]
     limits           400      6_000 [
@@ -87,7 +87,7 @@ themes! {
         order("list", "7"),
         order("save", "7"),
         order("load", "13"),
-        order("write_request", "7")
+        order("write_fill", "7")
     ]
     frames_read   12_000     60_000 [
         order("Piece::read", "accepted 1 2 3 4 7 6 5"),

@@ -24,8 +24,8 @@ fn piece_said(piece: &Piece<'_>) -> String {
 
 // What a directory entry says.
 fn entry_said(entry: &Entry<'_>) -> String {
-    let size = counted(entry.header.size as usize, "byte");
-    format!("file {}, `{}`, has {size}", entry.number, headers::name(&entry.header))
+    let length = counted(entry.header.length as usize, "byte");
+    format!("file {}, `{}`, has {length}", entry.number, headers::name(&entry.header))
 }
 
 // What a request says.

@@ -61,12 +61,12 @@ struct Told {
 // offset 0 may have it whole; the library reads it.
 fn told(frame: &[u8]) -> Option<Told> {
     if let Ok(entry) = Entry::read(frame) {
-        return Some(Told { number: entry.number, length: Some(entry.header.size), by_entry: true, is_first: false });
+        return Some(Told { number: entry.number, length: Some(entry.header.length), by_entry: true, is_first: false });
     }
     let piece = Piece::read(frame).ok()?;
     let is_first = piece.offset == 0;
     let header = Some(piece).filter(|_| is_first).and_then(|piece| Header::read(piece.bytes, piece.number).ok());
-    Some(Told { number: piece.number, length: header.map(|header| header.size), by_entry: false, is_first })
+    Some(Told { number: piece.number, length: header.map(|header| header.length), by_entry: false, is_first })
 }
 
 /// The number and the length of the file that a new record is of.

@@ -163,8 +163,8 @@ fn other_than_piece(frame: &[u8]) -> Option<(Came, String)> {
     }
     match Entry::read(frame) {
         Ok(entry) => {
-            let size = counted(entry.header.size as usize, "byte");
-            Some((Came::Entry, format!("directory entry of file {}, {size}", entry.number)))
+            let length = counted(entry.header.length as usize, "byte");
+            Some((Came::Entry, format!("directory entry of file {}, {length}", entry.number)))
         }
         // the protocol is the directory's, so what is wrong is wrong with the entry
         Err(reason) if frame.get(15) == Some(&0xBD) && Piece::read(frame) == Err(Reason::Protocol) => {
@@ -177,7 +177,7 @@ fn other_than_piece(frame: &[u8]) -> Option<(Came, String)> {
 // A word on an entry of the record's file that tells another length.
 fn differs(reception: &Reception, frame: &[u8]) -> String {
     match Entry::read(frame) {
-        Ok(entry) if entry.number == reception.number() && entry.header.size != reception.length() => {
+        Ok(entry) if entry.number == reception.number() && entry.header.length != reception.length() => {
             format!(", and the record has {}", counted(reception.length() as usize, "byte"))
         }
         _ => String::new(),

@@ -39,14 +39,14 @@ impl Both {
         Compared { answer: model }
     }
 
-    /// The header that bytes start with, and its length.
+    /// The header that bytes start with, and its own size.
     pub fn header(&mut self, bytes: &[u8], number: u32) -> Compared<(model::Header, usize)> {
         let before = (self.rubbish.draw() as usize, self.rubbish_header());
         let (lent, mut told) = (bytes.to_vec(), before);
         let answer = boundary::header(&lent, number, &mut told.0, &mut told.1);
         let model = model::read_header(bytes, number);
         let library = Outcome::library(answer, told, vec![lent]);
-        let told = model.clone().map(|(header, length)| (length, header_told(&header)));
+        let told = model.clone().map(|(header, size)| (size, header_told(&header)));
         let expected = Outcome::model(&told, before, vec![bytes.to_vec()]);
         let input = [Part::Number("number", number.into()), Part::Bytes("bytes", bytes)];
         let case = case(expected.reason, 0);
@@ -123,7 +123,7 @@ impl Both {
         HeaderTold {
             name: random.draw(),
             extension: random.word(),
-            size: random.word(),
+            length: random.word(),
             created: random.word(),
             modified: random.word(),
             upset: random.byte(),
@@ -181,7 +181,7 @@ fn header_told(header: &model::Header) -> HeaderTold {
     HeaderTold {
         name: u64::from_le_bytes(header.name),
         extension: u32::from_le_bytes([a, b, c, 0]),
-        size: header.size,
+        length: header.length,
         created: header.created,
         modified: header.modified,
         upset: header.upset,

@@ -13,13 +13,13 @@ pub struct Written {
 }
 
 impl Both {
-    pub fn write_request(&mut self, wanted: Wanted<'_>, place: u32, target: &[u8]) -> Written {
+    pub fn write_fill(&mut self, wanted: Wanted<'_>, place: u32, target: &[u8]) -> Written {
         let before = (self.rubbish.word(), self.rubbish.word());
         let (map, mut library, mut model) = (wanted.map.to_vec(), target.to_vec(), target.to_vec());
         let mut told = before;
         let lent = Wanted { map: &map, ..wanted };
-        let answer = boundary::write_request(lent, place, &mut library, &mut told.0, &mut told.1);
-        let expected = model::write_request(
+        let answer = boundary::write_fill(lent, place, &mut library, &mut told.0, &mut told.1);
+        let expected = model::write_fill(
             address_of(wanted.destination),
             address_of(wanted.source),
             wanted.number,
@@ -30,7 +30,7 @@ impl Both {
         );
         let left = Outcome::library(answer, told, vec![map, library.clone()]);
         let right = Outcome::model(&expected, before, vec![wanted.map.to_vec(), model.clone()]);
-        self.compare(("write_request", write_case(&expected, wanted)), &shown(wanted, place, target), &left, &right);
+        self.compare(("write_fill", write_case(&expected, wanted)), &shown(wanted, place, target), &left, &right);
         Written { answer: expected, targets: [library, model] }
     }
 

@@ -23,7 +23,7 @@ pub enum Broken {
     SumOverItself,
     OtherNumber,
     BodyBelowTheHeader,
-    BodyAboveTheSize,
+    BodyAboveTheLength,
     BytesAfterTheEnd,
     NoEnd,
     CutEnd,
@@ -45,7 +45,7 @@ pub const BROKEN: [Broken; 19] = [
     Broken::SumOverItself,
     Broken::OtherNumber,
     Broken::BodyBelowTheHeader,
-    Broken::BodyAboveTheSize,
+    Broken::BodyAboveTheLength,
     Broken::BytesAfterTheEnd,
     Broken::NoEnd,
     Broken::CutEnd,
@@ -59,8 +59,8 @@ pub fn with(random: &mut Random, number: u32, broken: &[Broken]) -> Vec<u8> {
     for &rule in broken {
         break_items(random, &mut items, rule);
     }
-    let length = 2 + items.iter().map(|item| 3 + item.1.len()).sum::<usize>() + 3;
-    settle_body(random, &mut items, length, broken);
+    let size = 2 + items.iter().map(|item| 3 + item.1.len()).sum::<usize>() + 3;
+    settle_body(random, &mut items, size, broken);
     settle_sum(&mut items, broken);
     let mut bytes = put_together(&items);
     for &rule in broken {
@@ -162,18 +162,18 @@ fn other_length(random: &mut Random, length: usize) -> Vec<u8> {
 }
 
 // Sets items 0B and 04: on both sides of both limits.
-fn settle_body(random: &mut Random, items: &mut [Item], length: usize, broken: &[Broken]) {
-    let mut body = if random.chance(40) { length } else { random.within(length, 65_535) };
-    let mut size = if random.chance(40) { body } else { body + random.word() as usize % 100_000 };
+fn settle_body(random: &mut Random, items: &mut [Item], size: usize, broken: &[Broken]) {
+    let mut body = if random.chance(40) { size } else { random.within(size, 65_535) };
+    let mut length = if random.chance(40) { body } else { body + random.word() as usize % 100_000 };
     if broken.contains(&Broken::BodyBelowTheHeader) {
-        body = if random.chance(60) { length - 1 } else { random.within(1, length - 1) };
+        body = if random.chance(60) { size - 1 } else { random.within(1, size - 1) };
     }
-    if broken.contains(&Broken::BodyAboveTheSize) {
-        size = if random.chance(60) { body - 1 } else { random.below(body) };
+    if broken.contains(&Broken::BodyAboveTheLength) {
+        length = if random.chance(60) { body - 1 } else { random.below(body) };
     }
     for item in items {
         match (item.0, item.1.len()) {
-            (4, 4) => item.1 = (size as u32).to_le_bytes().to_vec(),
+            (4, 4) => item.1 = (length as u32).to_le_bytes().to_vec(),
             (11, 2) => item.1 = (body as u16).to_le_bytes().to_vec(),
             _ => (),
         }

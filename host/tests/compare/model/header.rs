@@ -26,7 +26,7 @@ const MANDATORY: [(u16, usize); 11] = [
     (0x0B, 2),
 ];
 
-/// All items before the end item, and the header's length with AA 55 and the
+/// All items before the end item, and the header's size with AA 55 and the
 /// end item. Nothing if AA 55 or the end item is missing, an item runs past
 /// the bytes, or id 0 has another length than 0.
 fn items(bytes: &[u8]) -> Option<(Vec<Item<'_>>, usize)> {
@@ -93,9 +93,9 @@ fn number_agrees(items: &[Item], file_number: u32) -> bool {
 }
 
 /// Rule: item 0B is at least the header's length and at most item 04.
-fn body_place_agrees(items: &[Item], length: usize) -> bool {
+fn body_place_agrees(items: &[Item], size: usize) -> bool {
     match (number_of(items, 0x0B), number_of(items, 0x04)) {
-        (Some(body), Some(size)) => length as u64 <= u64::from(body) && body <= size,
+        (Some(body), Some(length)) => size as u64 <= u64::from(body) && body <= length,
         _ => false,
     }
 }
@@ -105,7 +105,7 @@ fn values(items: &[Item]) -> Option<Header> {
     Some(Header {
         name: <[u8; 8]>::try_from(data_of(items, 0x02)?).ok()?,
         extension: <[u8; 3]>::try_from(data_of(items, 0x03)?).ok()?,
-        size: number_of(items, 0x04)?,
+        length: number_of(items, 0x04)?,
         created: number_of(items, 0x05)?,
         modified: number_of(items, 0x06)?,
         upset: *data_of(items, 0x07)?.first()?,
@@ -117,17 +117,17 @@ fn values(items: &[Item]) -> Option<Header> {
     })
 }
 
-/// Reads the file header these bytes begin with, and its length. That nothing
+/// Reads the file header these bytes begin with, and its own size. That nothing
 /// follows it is a rule of the directory entry.
 pub fn read(bytes: &[u8], file_number: u32) -> Answer<(Header, usize)> {
     // 8: file header breaks a rule.
-    let (items, length) = items(bytes).ok_or(8)?;
-    let header = &bytes[..length];
+    let (items, size) = items(bytes).ok_or(8)?;
+    let header = &bytes[..size];
     let right = mandatory_items_once(&items)
         && upload_at_most_once(&items)
         && sum_agrees(header, &items)
         && number_agrees(&items, file_number)
-        && body_place_agrees(&items, length);
+        && body_place_agrees(&items, size);
     refuse_if(!right, 8)?;
-    Ok((values(&items).ok_or(8)?, length))
+    Ok((values(&items).ok_or(8)?, size))
 }

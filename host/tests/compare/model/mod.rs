@@ -24,7 +24,7 @@ pub use frame::{entry, piece};
 pub use header::read as read_header;
 pub use reception::{count_held, is_held, join, list, open, take};
 pub use record::{load, save};
-pub use request::{read_request, write_request, write_start};
+pub use request::{read_request, write_fill, write_start};
 
 /// A value, or the number of the reason of a refusal.
 pub type Answer<T> = Result<T, u8>;
@@ -80,7 +80,7 @@ pub struct Header {
     /// Item 03.
     pub extension: [u8; 3],
     /// Item 04, the whole file's length with its header.
-    pub size: u32,
+    pub length: u32,
     /// Item 05.
     pub created: u32,
     /// Item 06.

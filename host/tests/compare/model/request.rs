@@ -78,7 +78,7 @@ fn request_frame(destination: Address, source: Address, number: u32, holes: &[(u
 
 /// Writes a request for the holes from a place, all of them up to 49, and
 /// answers their count and the end of the last.
-pub fn write_request(
+pub fn write_fill(
     destination: Address,
     source: Address,
     number: u32,

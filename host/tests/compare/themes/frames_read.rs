@@ -42,7 +42,7 @@ fn piece(both: &mut Both, frame: &[u8]) {
 
 fn entry(both: &mut Both, frame: &[u8]) {
     let (input, read) = ([Part::Bytes("frame", frame)], Entry::read(frame));
-    let all = read.map_or(true, |entry| entry.header.length == entry.bytes.len());
+    let all = read.map_or(true, |entry| entry.header.size == entry.bytes.len());
     both.claim(all, "an entry's header has all its bytes", &input);
     let library = read.map(|entry| {
         let (start, size) = place_in(frame, entry.bytes);
@@ -54,7 +54,7 @@ fn entry(both: &mut Both, frame: &[u8]) {
 }
 
 fn header(both: &mut Both, (bytes, number): (Vec<u8>, u32)) {
-    let library = Header::read(&bytes, number).map(|header| (values(header), header.length));
+    let library = Header::read(&bytes, number).map(|header| (values(header), header.size));
     let input = [Part::Number("number", number.into()), Part::Bytes("bytes", &bytes)];
     both.alike("Header::read", &input, library, model::read_header(&bytes, number));
 }
@@ -63,7 +63,7 @@ fn values(header: Header) -> model::Header {
     model::Header {
         name: header.name,
         extension: header.extension,
-        size: header.size,
+        length: header.length,
         created: header.created,
         modified: header.modified,
         upset: header.upset,

@@ -15,7 +15,7 @@ pub fn round(both: &mut Both, random: &mut Random) {
     both.is_held(length, &reception.map, place);
     let (destination, source) = (number_of(address(random)), number_of(address(random)));
     let wanted = Wanted { destination, source, number: reception.number, length, map: &[] };
-    both.write_request(Wanted { map: &reception.map, ..wanted }, place, &random.bytes(268));
+    both.write_fill(Wanted { map: &reception.map, ..wanted }, place, &random.bytes(268));
     saved(both, random, &reception);
     let mut joined = reception.clone();
     both.join(&mut joined, &reception);
@@ -29,7 +29,7 @@ pub fn round(both: &mut Both, random: &mut Random) {
 // A fresh reception has one hole, as long as the file.
 fn whole_hole(both: &mut Both, wanted: Wanted<'_>) {
     both.list(wanted.length, wanted.map, 0);
-    let written = both.write_request(wanted, 0, &[0; 28]);
+    let written = both.write_fill(wanted, 0, &[0; 28]);
     for frame in written.targets {
         both.read_request(&frame);
         both.hole(&frame, 0);

@@ -72,7 +72,7 @@ impl Beside {
         let Beside { number, length, ref map, .. } = *self;
         let (mut place, mut target) = (0, [0; 268]);
         let next = |_| {
-            let written = model::write_request(destination, source, number, length, map, place, &mut target);
+            let written = model::write_fill(destination, source, number, length, map, place, &mut target);
             let (count, end) = written.ok()?;
             place = end;
             Some(target[..23 + 5 * count as usize].to_vec())

@@ -44,7 +44,7 @@ fn repeated(both: &mut Both, random: &mut Random, wanted: Wanted<'_>) {
     let mut place = 0;
     loop {
         let target = enough(random, HEAD + 5 * MOST as usize);
-        let written = both.write_request(wanted, place, &target);
+        let written = both.write_fill(wanted, place, &target);
         let (count, end) = match written.answer {
             Ok(told) => told,
             Err(_) => break,
@@ -68,7 +68,7 @@ fn one_frame_or_two(both: &mut Both, random: &mut Random, wanted: Wanted<'_>) {
         let wanted = Wanted { length: 105, map: &map, ..wanted };
         for (place, expected) in [0, 97].into_iter().zip(frames) {
             let target = enough(random, HEAD + 5 * MOST as usize);
-            let answer = both.write_request(wanted, place, &target).answer;
+            let answer = both.write_fill(wanted, place, &target).answer;
             both.claim(answer == expected, "49 holes need one frame, 50 need two", &[Part::Bytes("map", &map)]);
         }
     }
@@ -98,10 +98,10 @@ fn from_a_place(both: &mut Both, random: &mut Random, wanted: Wanted<'_>) {
         1 => random.word(),
         _ => random.below(wanted.length as usize) as u32,
     };
-    let whole = both.write_request(wanted, place, &random.bytes(HEAD + 5 * MOST as usize));
+    let whole = both.write_fill(wanted, place, &random.bytes(HEAD + 5 * MOST as usize));
     let needed = HEAD + 5 * whole.answer.map_or(1, |told| told.0) as usize;
     let target = if random.chance(60) { too_short(random, needed) } else { enough(random, needed) };
-    both.write_request(wanted, place, &target);
+    both.write_fill(wanted, place, &target);
 }
 
 // One or two faults: an address, the length, the map, the target.
@@ -118,7 +118,7 @@ fn refused(both: &mut Both, random: &mut Random, wanted: Wanted<'_>) {
         }
     }
     let place = if random.chance(70) { 0 } else { random.below(wanted.length as usize + 1) as u32 };
-    both.write_request(spoilt, place, &target);
+    both.write_fill(spoilt, place, &target);
 }
 
 fn start(both: &mut Both, random: &mut Random, wanted: Wanted<'_>) {

@@ -1,8 +1,8 @@
--- `station_list` meets its contract: by what `reception::list` answers.
+-- `station_list` meets its contract: by what `holes::list` answers.
 -- Assumes nothing.
 use mathlib.Core.Path.{refl, sym, ap, _∙_}
 use borrow.Author.Needs.{needs}
-use Rattle.reception.specs.Listing.{listedAnswer}
+use Rattle.holes.specs.Listing.{listedAnswer}
 use Rattle.station.proofs.ExportLaws.{exported-accepted, exported-refused}
 use Rattle.station.proofs.boundary.station_list.Statement.{statement}
 use Rattle.station.proofs.boundary.station_list.Tie as tie

@@ -1,13 +1,13 @@
--- `station_write_request` meets its contract: by what `request::write_fill` answers, for the addresses that the numbers tell.
+-- `station_write_fill` meets its contract: by what `request::write_fill` answers, for the addresses that the numbers tell.
 -- Assumes nothing.
 use mathlib.Core.Path.{refl, ap}
 use denote.Ref.{now}
 use borrow.Author.Needs.{needs}
 use Rattle.request.specs.declared.Written.{Written}
 use Rattle.request.specs.Writing.{filledAnswer}
-use Rattle.station.proofs.ExportLaws.{filled-out}
-use Rattle.station.proofs.boundary.station_write_request.Statement.{statement}
-use Rattle.station.proofs.boundary.station_write_request.Tie as tie
+use Rattle.station.proofs.RequestExportLaws.{filled-out}
+use Rattle.station.proofs.request_boundary.station_write_fill.Statement.{statement}
+use Rattle.station.proofs.request_boundary.station_write_fill.Tie as tie
 
 address-of-requires : tie.Need-address-of-requires
 address-of-requires c κs = search needs
@@ -49,8 +49,8 @@ returns-2 c =
     filled-out _ _ _ _ (o .before .address-of .ensures) (o .address-of2 .ensures) _ _ _ _ (w .result) (Lent o) (Lent o)
     (w .ensures) (ap filledAnswer (c .before .n .given .1)) refl
 
-pub station-write-request-spec : {M : Type 1} → statement M
-station-write-request-spec =
+pub station-write-fill-spec : {M : Type 1} → statement M
+station-write-fill-spec =
     tie.close
     (tie.spec
     address-of-requires

@@ -3,8 +3,8 @@
 use Prim.Native.Nat.{_^_}
 use borrow.Author.Tests.{lt-ltb, le-ltb}
 use borrow.Author.Needs.{needs}
-use Rattle.station.proofs.boundary.top_byte.Statement.{statement}
-use Rattle.station.proofs.boundary.top_byte.Tie as tie
+use Rattle.station.proofs.addresses.top_byte.Statement.{statement}
+use Rattle.station.proofs.addresses.top_byte.Tie as tie
 
 cast-result : tie.Need-cast-result
 cast-result c = search needs

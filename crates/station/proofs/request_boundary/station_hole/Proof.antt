@@ -7,8 +7,8 @@ use Rattle.reason.specs.Answer.{Answer}
 use Rattle.request.specs.declared.Request.{Request}
 use Rattle.request.specs.Reading.{holeRead, requestAnswer}
 use Rattle.station.proofs.ExportLaws.{exported-accepted, exported-refused}
-use Rattle.station.proofs.boundary.station_hole.Statement.{statement}
-use Rattle.station.proofs.boundary.station_hole.Tie as tie
+use Rattle.station.proofs.request_boundary.station_hole.Statement.{statement}
+use Rattle.station.proofs.request_boundary.station_hole.Tie as tie
 
 read-request-requires : tie.Need-read-request-requires
 read-request-requires c κs = search needs

@@ -2,8 +2,8 @@
 -- Assumes nothing.
 use borrow.Author.Needs.{needs}
 use Rattle.station.specs.AddressNumber.{addressOf}
-use Rattle.station.proofs.boundary.address_of.Statement.{statement}
-use Rattle.station.proofs.boundary.address_of.Tie as tie
+use Rattle.station.proofs.addresses.address_of.Statement.{statement}
+use Rattle.station.proofs.addresses.address_of.Tie as tie
 
 cast-t3 : tie.Need-cast-t3
 cast-t3 c = search needs
