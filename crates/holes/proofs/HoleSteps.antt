@@ -68,9 +68,10 @@ module _ (m : List ℕ) where
   start-here p n before = sym (start-is-unheld p (n - p) (λ _. before))
 
   pub start-after : (p n past : ℕ) → heldBefore m p ≡ false → past ≡ first (held m) p (n - p)
-      → first (λ q. not (held m q)) past (n - past) ≡ holeStart n m p
-  start-after p n past before is =
-      sym (start-past p n before
+      → (r : ℕ) → r ≡ first (λ q. not (held m q)) past (n - past) → r ≡ holeStart n m p
+  start-after p n past before is r e =
+      e
+      ∙ sym (start-past p n before
       ∙ ap (holeStart n m) (sym is)
       ∙ ⊎-elim
       (λ g. first-none (startsHole m) past n g ∙ sym (first-none (λ q. not (held m q)) past n g))

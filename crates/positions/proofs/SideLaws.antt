@@ -30,6 +30,11 @@ side-small : (b : ℕ) (side : Bool) → b < 256 → sideOf b side < 256
 side-small b true h = h
 side-small b false h = omega arith
 
+-- the first byte that is another than one which is the side's
+pub other-is : (m : List ℕ) (i n b : ℕ) (side : Bool) → b ≡ noneOf side → (r : ℕ) → r ≡ first (λ j. not (eqb (byteAt m j) b)) i n
+    → r ≡ first (λ j. not (eqb (byteAt m j) (noneOf side))) i n
+other-is m i n b side is r e = e ∙ ap (λ (x : ℕ). first (λ j. not (eqb (byteAt m j) x)) i n) is
+
 -- a byte that no position of the side is in
 none-there : (m : List ℕ) (side : Bool) (q : ℕ) → byteAt m (q / 8) ≡ noneOf side → onSide m side q ≡ false
 none-there m true q e = empty-byte m q e

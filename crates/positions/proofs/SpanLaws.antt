@@ -7,7 +7,7 @@ use Prim.Native.Nat.{ℕ, zero, suc, _+_, _-_, _≤_, _<_}
 use native.Mathlib.Nat.{zero-add, suc-add, add-suc, add-zero, add-assoc}
 use native.Mathlib.Omega.{arith}
 use lib.Dec.{leb, ltb, eqb}
-use borrow.Author.Tests.{eq-eqb, ne-eqb, le-leb, lt-leb, lt-ltb, le-ltb, leb-true, ltb-true}
+use borrow.Author.Tests.{not-true, not-false, eq-eqb, ne-eqb, le-leb, lt-leb, lt-ltb, le-ltb, leb-true, ltb-true}
 use Rattle.reason.proofs.Bools.{and-left, and-right, and-both, le-or-lt}
 use Rattle.positions.specs.Spans.{within, every, count, first}
 
@@ -90,6 +90,14 @@ module _ (test : ℕ → Bool) where
   -- one position more
   pub one-more : (p q : ℕ) → ((r : ℕ) → p ≤ r → r < q → test r ≡ true) → test q ≡ true → (r : ℕ) → p ≤ r → r < q + 1 → test r ≡ true
   one-more p q before here r l g = ⊎-elim (λ h. let e : q ≡ r = omega arith in ap test (sym e) ∙ here) (λ h. before r l h) (le-or-lt q r)
+
+  -- the same two by what a call answered of the position
+  module _ (q : ℕ) (answer : Bool) (is : answer ≡ test q) where
+    pub not-all-by : (p n : ℕ) → p ≤ q → q < p + n → not answer ≡ true → every test p n ≡ false
+    not-all-by p n l g f = not-all p n q l g (sym is ∙ not-true answer f)
+
+    pub one-more-by : (p : ℕ) → ((r : ℕ) → p ≤ r → r < q → test r ≡ true) → not answer ≡ false → (r : ℕ) → p ≤ r → r < q + 1 → test r ≡ true
+    one-more-by p before f = one-more p q before (sym is ∙ not-false answer f)
 
   -- no position, and one more behind the others, as a loop meets them
   pub every-none : (p : ℕ) → every test p 0 ≡ true

@@ -105,7 +105,7 @@ pub record Cases : Type 0 where
   pub save-short-target : saving clean (rubbish 42) ≡ refused 12
   pub save-no-target : saving clean [] ≡ refused 12
   pub save-seven-before-twelve : saving (sized 0 [] []) [] ≡ refused 7
-  -- reading 01's example: what it says, its map and its bytes
+  -- reading 01's example: what it says, its map and its buffer
   pub is-one : isRecord sample ≡ true
   pub is-read : readRecord sample ≡ says 7 20
   pub its-map : mapIn sample ≡ 0x0F ∷ 0x03 ∷ 0x00 ∷ []

@@ -69,7 +69,7 @@ pub formed-is : (s : List ℕ) → Formed s → isRecord s ≡ true
 formed-is s f =
     record-by s false true true true true (f .right) (eq-eqb (length s) (recordLength (lengthIn s)) (f .long)) (f .fields) (f .spare) (f .unheld)
 
--- how long the map and the bytes in it are
+-- how long the map and the buffer in it are
 pub map-in-long : (s : List ℕ) → recordLength (lengthIn s) ≤ length s → length (mapIn s) ≡ mapSize (lengthIn s)
 map-in-long s h = let l = lengthIn s in length-take-le (mapSize l) (drop mapAt s) (simp length-drop (omega arith))
 
@@ -103,7 +103,7 @@ module _ (s : List ℕ) (l : ℕ) (is : l ≡ lengthIn s) where
       pub fails-fields : fieldsRight l s ≡ false → false ≡ isRecord s
       fails-fields e = sym (record-by s false true false _ _ right-in same-in (ap (λ (k : ℕ). fieldsRight k s) (sym is) ∙ e) refl refl)
 
-      -- its map and its bytes, by that length, and what they are read for
+      -- its map and its buffer, by that length, and what they are read for
       enough : recordLength l ≤ length s
       enough = omega (arith, long)
 
@@ -119,8 +119,8 @@ module _ (s : List ℕ) (l : ℕ) (is : l ≡ lengthIn s) where
           let k = ap length (map-is m e) ∙ map-in-long s (let j = long-in in omega (arith, j)) in
           (w .1, omega (arith, k, is))
 
-      pub bytes-enough : (m b : List ℕ) → m ≡ partBy s mapAt (mapSize l) → b ≡ partBy s (bufferAt l) l → (l ≤ longest) × (l ≤ length m * 8) × (l ≤ length b)
-      bytes-enough m b e f =
+      pub buffer-enough : (m b : List ℕ) → m ≡ partBy s mapAt (mapSize l) → b ≡ partBy s (bufferAt l) l → (l ≤ longest) × (l ≤ length m * 8) × (l ≤ length b)
+      buffer-enough m b e f =
           let w = map-enough m e in
           let k = ap length (buffer-is b f) ∙ buffer-in-long s (let j = long-in in omega (arith, j)) in
           (w .0, w .1, omega (arith, k, is))

@@ -74,7 +74,7 @@ saved-buffer-same l m n b d e f =
     values-same (λ p. cond (held m p) (byteAt b p) 0) (λ p. cond (held n p) (byteAt d p) 0) 0 l
     (λ p h. ap₂ (λ (w : Bool) (x : ℕ). cond w x 0) (e p (omega arith)) (f p (omega arith)))
 
--- the record by its number, its length, its map and its bytes
+-- the record by its number, its length, its map and its buffer
 made : ℕ → ℕ → List ℕ → List ℕ → List ℕ
 made n l m b = beforeMap n l ++ m ++ beforeBuffer l ++ b
 
@@ -101,8 +101,8 @@ zero-if : (b : Bool) (x : ℕ) → (b || eqb x 0) ≡ true → cond b x 0 ≡ x
 zero-if true x e = refl
 zero-if false x e = sym (eqb-true x 0 e)
 
-pub bytes-as-is : (l : ℕ) (m b : List ℕ) → length b ≡ l → unheldClear l m b ≡ true → savedBuffer l m b ≡ b
-bytes-as-is l m b long e =
+pub buffer-as-is : (l : ℕ) (m b : List ℕ) → length b ≡ l → unheldClear l m b ≡ true → savedBuffer l m b ≡ b
+buffer-as-is l m b long e =
     let k = saved-buffer-long l m b in
     ext-getD 0 (savedBuffer l m b) b (k ∙ sym long)
     (λ p h.
@@ -185,8 +185,8 @@ module _ (s : List ℕ) (a : AllBytes s) (f : Formed s) where
       let h = long in
       ap₂ _++_ to-length (field-bytes s 14 3 size a (omega (arith, h)) (and-right (one && two) three three-fields)) ∙ join s (take 14 s) 14 3 refl
 
-  to-bytes : beforeMap (numberIn s) l ++ mapIn s ++ beforeBuffer l ≡ take (bufferAt l) s
-  to-bytes =
+  to-buffer : beforeMap (numberIn s) l ++ mapIn s ++ beforeBuffer l ≡ take (bufferAt l) s
+  to-buffer =
       let h = long in
       ap₂ _++_
       (join s (beforeMap (numberIn s) l) mapAt size to-map)
@@ -201,6 +201,6 @@ module _ (s : List ℕ) (a : AllBytes s) (f : Formed s) where
       let j = f .long in
       sym (record-is (record { number = numberIn s; length = lengthIn s; map = mapIn s; buffer = bufferIn s }))
       ∙ ap₂ (made (numberIn s) l) (map-as-is l (mapIn s) (part-bytes s mapAt size a) (map-in-long s h) (f .spare))
-      (bytes-as-is l (mapIn s) (bufferIn s) (buffer-in-long s h) (f .unheld))
-      ∙ join s (beforeMap (numberIn s) l ++ mapIn s ++ beforeBuffer l) (bufferAt l) l to-bytes
+      (buffer-as-is l (mapIn s) (bufferIn s) (buffer-in-long s h) (f .unheld))
+      ∙ join s (beforeMap (numberIn s) l ++ mapIn s ++ beforeBuffer l) (bufferAt l) l to-buffer
       ∙ take-all (recordLength l) s (omega (arith, j))

@@ -120,7 +120,7 @@ whole-bytes l m n b h g =
     let j : i < n = omega (arith, long, k) in
     getD-take n m i 0 j ∙ whole-byte l m i (b i) (omega arith) ∙ sym (value-at (λ i. bitsFrom (heldOf l m) (i * 8) 8) 0 n i j))
 
--- ---- the bytes of a file, unheld ones as zero
+-- ---- the buffer of a file, unheld bytes as zero
 -- .. of the first n positions of a map byte, by their bits
 saved-byte : (m b : List ℕ) (from n : ℕ) → from % 8 ≡ 0 → n ≤ 8
     → valuesFrom (byteSaved (byteAt m (from / 8)) b from) from n ≡ valuesFrom (λ p. cond (held m p) (byteAt b p) 0) from n

@@ -40,7 +40,7 @@ part-fits s at n h =
 pub part-short : (s : List ℕ) (at n : ℕ) → length s < at + n → [] ≡ partBy s at n
 part-short s at n h = ap (λ (b : Bool). cond b (part s at n) []) (sym (lt-leb (at + n) (length s) h))
 
--- the map and the bytes by the length that a record says, where it is long enough
+-- the map and the buffer by the length that a record says, where it is long enough
 module _ (s : List ℕ) (l : ℕ) (is : l ≡ lengthIn s) (long : recordLength l ≤ length s) where
   part-is : (at n : ℕ) → at + n ≤ recordLength l → partBy s at n ≡ part s at n
   part-is at n h = ap (λ (b : Bool). cond b (part s at n) []) (le-leb (at + n) (length s) (omega (arith, h, long)))

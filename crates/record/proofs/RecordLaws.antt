@@ -18,7 +18,7 @@ use Rattle.positions.proofs.MapLaws.{map-long}
 use Rattle.reception.specs.Reception.{Reception, longest, wrongLength}
 use Rattle.record.specs.Record.{field, savedMap, savedBuffer, recordOf, mapAt, bufferAt, recordLength}
 
--- the bytes before the map, and the bytes between the map and the file's bytes
+-- the bytes before the map, and the bytes between the map and the buffer
 abbrev pub beforeMap : ℕ → ℕ → List ℕ
 beforeMap number l = field 1 (bytesOf 4 number) ++ field 2 (bytesOf 4 l) ++ 3 ∷ bytesOf 2 (mapSize l)
 
@@ -34,14 +34,14 @@ before-map-is number l size n k z e f g h = rw (e, f, g, h)
 pub before-buffer-is : (l : ℕ) (z : List ℕ) → z ≡ bytesOf 2 l → 4 ∷ getD z 0 0 ∷ getD z 1 0 ∷ [] ≡ beforeBuffer l
 before-buffer-is l z e = rw e
 
--- how long the map and the bytes of a record are
+-- how long the map and the buffer of a record are
 pub saved-map-long : (l : ℕ) (map : List ℕ) → length (savedMap l map) ≡ mapSize l
 saved-map-long l map = map-long _ (mapSize l)
 
 pub saved-buffer-long : (l : ℕ) (map buffer : List ℕ) → length (savedBuffer l map buffer) ≡ l
 saved-buffer-long l map buffer = values-long _ 0 l
 
--- the front of a record: up to its map, past its map, and up to its bytes
+-- the front of a record: up to its map, past its map, and up to its buffer
 abbrev pub upToMap : Reception → List ℕ
 upToMap s = beforeMap (s .number) (s .length)
 

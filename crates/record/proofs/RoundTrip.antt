@@ -63,7 +63,7 @@ module _ (s : Reception) (right : wrongLength (s .length) ≡ false) (four : s .
     abbrev b : List ℕ
     b = savedBuffer l (s .map) (s .buffer)
 
-    -- the lent map and buffer with the saved map and bytes
+    -- the lent map and buffer with the saved map and buffer
     map-is : loadedMap (recordOf s) map ≡ putIn map 0 m
     map-is = ap (putIn map 0) (saved-map-in s right)
 
@@ -228,7 +228,7 @@ pub accepted-is-saved : (r : List ℕ) → AllBytes r → isRecord r ≡ true
     → recordOf (record { number = numberIn r; length = lengthIn r; map = mapIn r; buffer = bufferIn r }) ≡ r
 accepted-is-saved r all e = record-of-parts r all (is-formed r e)
 
--- Two accepted records that say the same number, length, map and bytes are the same record.
+-- Two accepted records that say the same number, length, map and buffer are the same record.
 pub one-record : (r q : List ℕ) → AllBytes r → AllBytes q → isRecord r ≡ true → isRecord q ≡ true → numberIn r ≡ numberIn q → lengthIn r ≡ lengthIn q
     → mapIn r ≡ mapIn q → bufferIn r ≡ bufferIn q → r ≡ q
 one-record r q a b d e n l m y =

@@ -25,7 +25,7 @@ use Rattle.reception.proofs.OfferLaws.{right-length}
 use Rattle.record.proofs.RecordLaws.{beforeBuffer, saved-map-long, saved-buffer-long, upToMap, pastMap, upToBuffer, past-map-long, up-to-buffer-long, record-is, record-long}
 use Rattle.record.proofs.GivenAnswers.{formed-is}
 
--- ---- the saved map and the saved bytes, position by position
+-- ---- the saved map and the saved buffer, position by position
 module _ (l : ℕ) (map : List ℕ) where
   -- the saved map holds the positions of the file that are held
   pub saved-held : (p : ℕ) → p < mapSize l * 8 → held (savedMap l map) p ≡ heldOf l map p
@@ -117,7 +117,7 @@ module _ (s : Reception) (right : wrongLength (s .length) ≡ false) where
   unfolding recordOf
   saved-fields = and-both (fieldAt (recordOf s) 14 3 (mapSize l)) (fieldAt (recordOf s) (mapAt + mapSize l) 4 l) third fourth
 
-  -- its map and its bytes
+  -- its map and its buffer
   pub saved-map-in : mapIn (recordOf s) ≡ savedMap (s .length) (s .map)
   saved-map-in =
       ap₂ (λ (n : ℕ) (r : List ℕ). take (mapSize n) (drop mapAt r)) saved-length (split ∙ append-assoc (upToMap s) M (beforeBuffer l ++ B))

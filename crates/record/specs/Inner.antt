@@ -16,7 +16,7 @@ partBy s at n = cond (leb (at + n) (length s)) (part s at n) []
 
 -- bit p - from of a map byte is set, or the byte of position p is zero
 abbrev pub clearAt : ℕ → List ℕ → ℕ → ℕ → Bool
-clearAt b bytes from p = isSet b (p - from) || eqb (byteAt bytes p) 0
+clearAt b buffer from p = isSet b (p - from) || eqb (byteAt buffer p) 0
 
 -- the byte of position p where bit p - from of a map byte is set, and else 0
 abbrev pub byteSaved : ℕ → List ℕ → ℕ → ℕ → ℕ

@@ -20,7 +20,7 @@ loadingChecks s map buffer = check (not (isRecord s)) 13 ∷ check (shortSpace (
 unfoldable pub loading : List ℕ → List ℕ → List ℕ → Answer Recorded
 loading s map buffer = firstOf (loadingChecks s map buffer) (recordedIn s)
 
--- the lent map and buffer when it is loaded: the record's map, so that spare bits are clear, and its bytes; what lies beyond stays
+-- the lent map and buffer when it is loaded: the record's map, so that spare bits are clear, and its buffer; what lies beyond stays
 abbrev pub loadedMap : List ℕ → List ℕ → List ℕ
 loadedMap s map = putIn map 0 (mapIn s)
 

@@ -27,7 +27,7 @@ lengthIn s = numberAt 4 s 10
 abbrev pub part : List ℕ → ℕ → ℕ → List ℕ
 part s at n = take n (drop at s)
 
--- the data of fields 03 and 04: the map, and the bytes of the buffer
+-- the data of fields 03 and 04: the map and the buffer
 abbrev pub mapIn : List ℕ → List ℕ
 mapIn s = part s mapAt (mapSize (lengthIn s))
 
@@ -48,7 +48,7 @@ spareClear l map = every (λ p. not (held map p)) l (mapSize l * 8 - l)
 
 -- unheld bytes are zero
 abbrev pub unheldClear : ℕ → List ℕ → List ℕ → Bool
-unheldClear l map bytes = every (λ p. held map p || eqb (byteAt bytes p) 0) 0 l
+unheldClear l map buffer = every (λ p. held map p || eqb (byteAt buffer p) 0) 0 l
 
 -- the length is in range, nothing follows, the fields are in their order, spare bits and unheld bytes are zero
 unfoldable pub isRecord : List ℕ → Bool

@@ -28,8 +28,8 @@ const BEFORE_DATA: usize = 3;
 
 const NUMBER_SIZE: usize = 4;
 
-// Where the fields start in a record, and where their data stand: number, length and map. The field of the
-// bytes starts behind the map (`reading::buffer_at`).
+// Where the fields start in a record, and where their data stand: number, length and map. The buffer's
+// field starts behind the map (`reading::buffer_at`).
 const NUMBER_FIELD: usize = 0;
 
 const NUMBER_AT: usize = NUMBER_FIELD + BEFORE_DATA;

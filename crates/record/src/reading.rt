@@ -23,7 +23,7 @@ ghost use Rattle.record.specs.Record.{mapAt, bufferAt, recordLength};
 ghost use Rattle.record.specs.Reading.{lengthIn, fieldAt, fieldsRight, spareClear, unheldClear, isRecord, recordedIn};
 ghost use Rattle.record.specs.Inner.{partBy, clearAt};
 
-// Where the bytes of a file of a length stand in a record.
+// Where the buffer of a file of a length stands in a record.
 pub(crate) fn buffer_at(l: u32) -> usize
     ensures { λ r. ⌜ r ≡ bufferAt l ⌝ }
 {
@@ -66,7 +66,7 @@ pub(crate) fn map_by(saved: &[u8], l: u32) -> &[u8]
     part(saved, MAP_AT, reception::map_size(l))
 }
 
-// The bytes of a record of a file of a length, where they fit.
+// The buffer of a record of a file of a length, where it fits.
 pub(crate) fn buffer_by(saved: &[u8], l: u32) -> &[u8]
     ensures { λ r. ⌜ now r ≡ partBy (now (saved .entry)) (bufferAt l) l ⌝ }
 {
@@ -129,19 +129,19 @@ fn spare_clear(map: &[u8], l: usize) -> bool
 
 // Whether position p is held, by its bit in the byte of the eight positions from `from` on, or its byte is
 // zero. The byte is read in any case, so that no branch is needed.
-fn clear_at(b: u8, bytes: &[u8], from: usize, p: usize) -> bool
-    requires { ⌜ (from ≤ p) × (p < from + 8) × (p < length (now bytes)) ⌝ }
-    ensures { λ r. ⌜ r ≡ clearAt b (now (bytes .entry)) from p ⌝ }
+fn clear_at(b: u8, buffer: &[u8], from: usize, p: usize) -> bool
+    requires { ⌜ (from ≤ p) × (p < from + 8) × (p < length (now buffer)) ⌝ }
+    ensures { λ r. ⌜ r ≡ clearAt b (now (buffer .entry)) from p ⌝ }
 {
-    let byte = bytes[p];
+    let byte = buffer[p];
     positions::is_set(b, p - from) | (byte == 0)
 }
 
 // The same of the eight positions from `from` on. A full byte is passed over; of another, eight turns,
 // whatever is found, are unrolled by the compiler.
-fn clear_eight(b: u8, bytes: &[u8], from: usize) -> bool
-    requires { ⌜ from + 8 ≤ length (now bytes) ⌝ }
-    ensures { λ r. ⌜ r ≡ every (clearAt b (now (bytes .entry)) from) from 8 ⌝ }
+fn clear_eight(b: u8, buffer: &[u8], from: usize) -> bool
+    requires { ⌜ from + 8 ≤ length (now buffer) ⌝ }
+    ensures { λ r. ⌜ r ≡ every (clearAt b (now (buffer .entry)) from) from 8 ⌝ }
 {
     if b == 255 {
         return true;
@@ -149,21 +149,21 @@ fn clear_eight(b: u8, bytes: &[u8], from: usize) -> bool
     let mut clear = true;
     let mut k = 0;
     while k < 8 {
-        clear = clear & clear_at(b, bytes, from, from + k);
+        clear = clear & clear_at(b, buffer, from, from + k);
         k += 1;
     }
     clear
 }
 
 // The same of the n positions from `from` on.
-fn clear_few(b: u8, bytes: &[u8], from: usize, n: usize) -> bool
-    requires { ⌜ (n ≤ 8) × (from + n ≤ length (now bytes)) ⌝ }
-    ensures { λ r. ⌜ r ≡ every (clearAt b (now (bytes .entry)) from) from n ⌝ }
+fn clear_few(b: u8, buffer: &[u8], from: usize, n: usize) -> bool
+    requires { ⌜ (n ≤ 8) × (from + n ≤ length (now buffer)) ⌝ }
+    ensures { λ r. ⌜ r ≡ every (clearAt b (now (buffer .entry)) from) from n ⌝ }
 {
     let mut clear = true;
     let mut k = 0;
     while k < n {
-        clear = clear & clear_at(b, bytes, from, from + k);
+        clear = clear & clear_at(b, buffer, from, from + k);
         k += 1;
     }
     clear
@@ -171,13 +171,13 @@ fn clear_few(b: u8, bytes: &[u8], from: usize, n: usize) -> bool
 
 // Whether the bytes of the positions below l that are not held are zero. A map byte is looked at once, the
 // last one for itself where it has fewer than eight positions.
-fn unheld_clear(map: &[u8], bytes: &[u8], l: usize) -> bool
-    requires { ⌜ (l ≤ longest) × (l ≤ length (now map) * 8) × (l ≤ length (now bytes)) ⌝ }
-    ensures { λ r. ⌜ r ≡ unheldClear l (now (map .entry)) (now (bytes .entry)) ⌝ }
+fn unheld_clear(map: &[u8], buffer: &[u8], l: usize) -> bool
+    requires { ⌜ (l ≤ longest) × (l ≤ length (now map) * 8) × (l ≤ length (now buffer)) ⌝ }
+    ensures { λ r. ⌜ r ≡ unheldClear l (now (map .entry)) (now (buffer .entry)) ⌝ }
 {
     let mut p = 0;
     while p + 8 <= l {
-        if !clear_eight(map[p / 8], bytes, p) {
+        if !clear_eight(map[p / 8], buffer, p) {
             return false;
         }
         p += 8;
@@ -185,5 +185,5 @@ fn unheld_clear(map: &[u8], bytes: &[u8], l: usize) -> bool
     if p == l {
         return true;
     }
-    clear_few(map[p / 8], bytes, p, l - p)
+    clear_few(map[p / 8], buffer, p, l - p)
 }

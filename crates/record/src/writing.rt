@@ -47,7 +47,7 @@ fn before_map(number: u32, length: u32) -> [u8; MAP_AT]
     ]
 }
 
-// The tag and length of the field of the bytes.
+// The tag and length of the buffer's field.
 fn before_buffer(length: u32) -> [u8; BEFORE_DATA]
     requires { ⌜ length ≤ longest ⌝ }
     ensures { λ r. ⌜ r ≡ 4 ∷ bytesOf 2 length ⌝ }
@@ -127,7 +127,7 @@ fn put_byte(b: u8, buffer: &[u8], from: usize, end: usize, target: &mut [u8], at
     }
 }
 
-// Writes the bytes of a file of l bytes into the target from a place on, unheld ones as zero. A map byte is
+// Writes the buffer of a file of l bytes into the target from a place on, unheld bytes as zero. A map byte is
 // looked at once, the last one for itself where it has fewer than eight positions.
 fn put_buffer(map: &[u8], buffer: &[u8], l: usize, target: &mut [u8], at: usize)
     requires { ⌜ (l ≤ longest) × (mapSize l ≤ length (now map)) × (l ≤ length (now buffer)) × (at + l ≤ length (now target)) ⌝ }

@@ -19,7 +19,7 @@ bit-below : (c bit : ℕ) → c < 2 ^ 16 → bit < 2 → withBit c bit < 2 ^ 16
 unfolding withBit
 bit-below c bit h l =
     let x : bitXor (c / 2 ^ 15) bit < 2 ^ 1 = xor-lt 1 (c / 2 ^ 15) bit (omega arith) l in
-    xor-lt 16 (c * 2 % 2 ^ 16) (bitXor (c / 2 ^ 15) bit * polynomial) (omega arith) (omega arith)
+    xor-lt 16 (bitXor (c / 2 ^ 15) bit * polynomial) (c * 2 % 2 ^ 16) (omega arith) (omega arith)
 
 bits-below : (c : ℕ) (s : List ℕ) → c < 2 ^ 16 → withBits c (messageBits s) < 2 ^ 16
 unfolding withBits messageBits

@@ -11,7 +11,7 @@ use lib.Bits.{bitXor, xor-shr, xor-mod, xor-zero-l, xor-zero-r, xor-block, xor-s
 use Rattle.remainder.specs.Remainder.{polynomial, withBit, withBits, bitsOf, messageBits, remainderOf}
 use Rattle.remainder.specs.ByteList.{remainderOfByte}
 use Rattle.remainder.specs.Inner.{inTwo}
-use Rattle.remainder.proofs.Xor.{xor-assoc, xor-swap, xor-shl}
+use Rattle.remainder.proofs.Xor.{xor-assoc, xor-shl}
 use Rattle.octets.proofs.ValueLaws.{same-values}
 
 -- a bit of the message is the same as that bit at the top of the remainder
@@ -24,7 +24,7 @@ at-top c bit =
     ∙ ap (bitXor (c * 2 % 2 ^ 16)) none ∙ xor-zero-r (c * 2 % 2 ^ 16) in
     let back : bit * 2 ^ 15 / 2 ^ 15 ≡ bit = omega arith in
     let out : bitXor (bitXor c (bit * 2 ^ 15) / 2 ^ 15) 0 ≡ bitXor (c / 2 ^ 15) bit = xor-zero-r (bitXor c (bit * 2 ^ 15) / 2 ^ 15) ∙ xor-shr c (bit * 2 ^ 15) 15 ∙ ap (bitXor (c / 2 ^ 15)) back in
-    sym (ap₂ (λ (x y : ℕ). bitXor x (y * polynomial)) up out)
+    sym (ap₂ (λ (x y : ℕ). bitXor (y * polynomial) x) up out)
 
 -- a part below the top bit moves up by one
 low-step : (a low : ℕ) → low < 2 ^ 15 → withBit (bitXor a low) 0 ≡ bitXor (withBit a 0) (low * 2)
@@ -35,7 +35,7 @@ low-step a low h =
     ∙ ap (bitXor (a * 2 % 2 ^ 16)) (mod-eq-of-lt (omega arith)) in
     let none : low / 2 ^ 15 ≡ 0 = omega arith in
     let out : bitXor a low / 2 ^ 15 ≡ a / 2 ^ 15 = xor-shr a low 15 ∙ ap (bitXor (a / 2 ^ 15)) none ∙ xor-zero-r (a / 2 ^ 15) in
-    ap₂ (λ (x y : ℕ). bitXor x (bitXor y 0 * polynomial)) up out ∙ xor-swap (a * 2 % 2 ^ 16) (low * 2) (bitXor (a / 2 ^ 15) 0 * polynomial)
+    ap₂ (λ (x y : ℕ). bitXor (bitXor y 0 * polynomial) x) up out ∙ sym (xor-assoc (bitXor (a / 2 ^ 15) 0 * polynomial) (a * 2 % 2 ^ 16) (low * 2))
 
 -- n bits leave, and none enters
 unfoldable leave : ℕ → ℕ → ℕ

@@ -12,7 +12,7 @@ polynomial = 2 ^ 12 + 2 ^ 5 + 2 ^ 0
 -- 1) and the message's bit differ, the polynomial is taken off. So a bit enters at the top, and what is left at the end is the
 -- remainder of the message with 16 zero bits behind it, where the check bytes go.
 unfoldable pub withBit : ℕ → ℕ → ℕ
-withBit c bit = bitXor (c * 2 % 2 ^ 16) (bitXor (c / 2 ^ 15) bit * polynomial)
+withBit c bit = bitXor (bitXor (c / 2 ^ 15) bit * polynomial) (c * 2 % 2 ^ 16)
 
 -- bit after bit, from the remainder c on
 unfoldable pub withBits : ℕ → List ℕ → ℕ

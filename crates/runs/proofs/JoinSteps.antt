@@ -1,6 +1,6 @@
 -- Joining, a map byte at a time.
 -- Assumes nothing.
-use mathlib.Core.Path.{_≡_, sym, ap, ap₂, _∙_, subst}
+use mathlib.Core.Path.{_≡_, refl, sym, ap, ap₂, _∙_, subst}
 use mathlib.Core.Bool.{Bool, true, false, cond, not, _&&_, _||_}
 use mathlib.Core.List.{List}
 use Prim.Native.Nat.{ℕ, _+_, _-_, _*_, _/_, _%_, _≤_, _<_}
@@ -10,7 +10,7 @@ use lib.Bits.{bitOr, bitAnd}
 use lib.Count.{ones}
 use lib.Dec.{eqb}
 use lib.ListN.{length, set}
-use borrow.Author.Tests.{not-true}
+use borrow.Author.Tests.{not-true, not-false}
 use Rattle.reason.proofs.Bools.{and-left, and-right}
 use Rattle.octets.specs.Numbers.{byteAt, AllBytes}
 use Rattle.positions.specs.Spans.{every}
@@ -30,24 +30,26 @@ module _ (m b o d : List ℕ) where
       every-same (bitAgrees (bitAnd (byteAt m (from / 8)) (byteAt o (from / 8))) b 0 d from) (bothAgree m b o d) from (end - from)
       (λ q l g. ap₂ (λ (w : Bool) (x : ℕ). not w || eqb (byteAt b q) (byteAt d x)) (set-and (byteAt m (from / 8)) (byteAt o (from / 8)) (q - from) ∙ ap₂ _&&_ (bit-of m from q a l (omega arith)) (bit-of o from q a l (omega arith))) (sub-zero q))
 
+  -- by what a call answered of those positions
   pub byte-fails : (from end n : ℕ) → from % 8 ≡ 0 → from ≤ end → end ≤ from + 8 → end ≤ n
-      → every (bitAgrees (bitAnd (byteAt m (from / 8)) (byteAt o (from / 8))) b 0 d from) from (end - from) ≡ false → every (bothAgree m b o d) 0 n ≡ false
-  byte-fails from end n a low high h e =
-      part-fails (bothAgree m b o d) 0 n from (end - from) (omega arith) (omega arith) (sym (byte-agrees from end a low high) ∙ e)
+      → (r : Bool) → r ≡ every (bitAgrees (bitAnd (byteAt m (from / 8)) (byteAt o (from / 8))) b 0 d from) from (end - from) → not r ≡ true
+      → every (bothAgree m b o d) 0 n ≡ false
+  byte-fails from end n a low high h r e f =
+      part-fails (bothAgree m b o d) 0 n from (end - from) (omega arith) (omega arith) (sym (byte-agrees from end a low high) ∙ sym e ∙ not-true r f)
 
   pub byte-passes : (from end : ℕ) → from % 8 ≡ 0 → from ≤ end → end ≤ from + 8
-      → every (bitAgrees (bitAnd (byteAt m (from / 8)) (byteAt o (from / 8))) b 0 d from) from (end - from) ≡ true
+      → (r : Bool) → r ≡ every (bitAgrees (bitAnd (byteAt m (from / 8)) (byteAt o (from / 8))) b 0 d from) from (end - from) → not r ≡ false
       → ((q : ℕ) → 0 ≤ q → q < from → bothAgree m b o d q ≡ true) → (q : ℕ) → 0 ≤ q → q < end → bothAgree m b o d q ≡ true
-  byte-passes from end a low high e before =
-      then-pass (bothAgree m b o d) 0 from end low (sym (byte-agrees from end a low high) ∙ e) before
+  byte-passes from end a low high r e f before =
+      then-pass (bothAgree m b o d) 0 from end low (sym (byte-agrees from end a low high) ∙ sym e ∙ not-false r f) before
 
   -- the last positions decide
   pub byte-decides : (from n : ℕ) → from % 8 ≡ 0 → from ≤ n → n ≤ from + 8 → ((q : ℕ) → 0 ≤ q → q < from → bothAgree m b o d q ≡ true)
       → (r : Bool) → r ≡ every (bitAgrees (bitAnd (byteAt m (from / 8)) (byteAt o (from / 8))) b 0 d from) from (n - from)
       → r ≡ every (bothAgree m b o d) 0 n
   byte-decides from n a low high before true e =
-      sym (all-if (bothAgree m b o d) 0 n (λ q l g. byte-passes from n a low high (sym e) before q l (omega arith)))
-  byte-decides from n a low high before false e = sym (byte-fails from n n a low high (omega arith) (sym e))
+      sym (all-if (bothAgree m b o d) 0 n (λ q l g. byte-passes from n a low high true e refl before q l (omega arith)))
+  byte-decides from n a low high before false e = sym (byte-fails from n n a low high (omega arith) false e refl)
 
 -- ---- adding one byte
 module _ (m : List ℕ) (theirs from : ℕ) (a : from % 8 ≡ 0) (h : from / 8 < length m) (all : AllBytes m) (small : theirs < 256) where

@@ -73,11 +73,19 @@ pub run-buffer : (new : ℕ → Bool) (from b : List ℕ) (p n : ℕ) (b′ : Li
     → b′ ≡ valuesFrom (λ q. cond (within p n q && new q) (byteAt from q) (byteAt b q)) 0 (length b)
 run-buffer new from b p n b′ run = buffer-is (λ q. cond (within p n q && new q) (byteAt from q) (byteAt b q)) b b′ (run .long) (run .bytes)
 
+-- ---- what a call answered of an offer, where its positions are known to lie inside
+pub agrees-inside : (lies : Bool) → lies ≡ true → (m b : List ℕ) (o : Offer) (r : Bool) → r ≡ agrees m b o → r ≡ (lies && agrees m b o)
+agrees-inside lies e m b o r is = is ∙ sym (ap (λ (i : Bool). i && agrees m b o) e)
+
+pub agrees-told : (lies : Bool) → lies ≡ true → (m b : List ℕ) (o : Offer) (r : Bool) → r ≡ (lies && agrees m b o) → agrees m b o ≡ r
+agrees-told lies e m b o r is = sym (is ∙ ap (λ (i : Bool). i && agrees m b o) e)
+
 -- ---- a piece
 module _ (m b : List ℕ) (at : ℕ) (d : List ℕ) where
-  pub piece-agrees : every (pieceAgrees m b at d) at (length d) ≡ agrees m b (pieceAt at d)
-  piece-agrees =
-      every-same (pieceAgrees m b at d) (agreesAt m b (pieceAt at d)) at (length d)
+  pub piece-agrees : (r : Bool) → r ≡ every (pieceAgrees m b at d) at (length d) → r ≡ agrees m b (pieceAt at d)
+  piece-agrees r e =
+      e
+      ∙ every-same (pieceAgrees m b at d) (agreesAt m b (pieceAt at d)) at (length d)
       (λ p _ _. ap (λ (h : Bool). not h || eqb (byteAt b p) (byteAt d (p - at))) (sym (and-true (held m p))))
 
   -- a byte of the piece is written, or is there already

@@ -40,11 +40,12 @@ rest-of m p q l g =
     let b : p % 8 + (q - p) ≡ q % 8 = omega arith in
     set-shr (byteAt m (p / 8)) (p % 8) (q - p) ∙ rw (b, a) (sym (held-by m q))
 
--- a piece agrees at those positions
+-- a piece agrees at those positions, by what a call answered of them
 pub rest-agrees : (m b : List ℕ) (at : ℕ) (d : List ℕ) (p end : ℕ) → p ≤ end → end ≤ p / 8 * 8 + 8
-    → every (bitAgrees (byteAt m (p / 8) / 2 ^ (p % 8)) b at d p) p (end - p) ≡ every (pieceAgrees m b at d) p (end - p)
-rest-agrees m b at d p end low high =
-    every-same (bitAgrees (byteAt m (p / 8) / 2 ^ (p % 8)) b at d p) (pieceAgrees m b at d) p (end - p)
+    → (r : Bool) → r ≡ every (bitAgrees (byteAt m (p / 8) / 2 ^ (p % 8)) b at d p) p (end - p) → r ≡ every (pieceAgrees m b at d) p (end - p)
+rest-agrees m b at d p end low high r e =
+    e
+    ∙ every-same (bitAgrees (byteAt m (p / 8) / 2 ^ (p % 8)) b at d p) (pieceAgrees m b at d) p (end - p)
     (λ q l g. ap (λ (w : Bool). not w || sameAt b at d q) (rest-of m p q l (omega arith)))
 
 -- ---- over a whole byte below an end

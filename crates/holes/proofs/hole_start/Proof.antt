@@ -50,10 +50,9 @@ first-unheld-requires-3 c κs = search needs
 returns-3 : tie.Need-returns-3
 returns-3 c =
     let x = c .before .before .before .before .before .before .args in
-    c .first-unheld3 .ensures
-    ∙ start-after (x .map .now) (x .place) (x .n) (c .before .first-held .result)
+    start-after (x .map .now) (x .place) (x .n) (c .before .first-held .result)
     (before-is (x .map .now) (x .place) (omega arith) ∙ sym (c .before .before .before .is-held .ensures) ∙ c .before .before .if2 .left)
-    (c .before .first-held .ensures)
+    (c .before .first-held .ensures) (c .first-unheld3 .result) (c .first-unheld3 .ensures)
 
 pub hole-start-spec : {M : Type 1} → statement M
 hole-start-spec =

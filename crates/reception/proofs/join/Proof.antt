@@ -11,18 +11,25 @@ use borrow.Author.Tests.{not-true, not-false, eqb-true}
 use borrow.Author.Needs.{needs}
 use Rattle.reason.specs.Answer.{accepted, refused}
 use Rattle.reason.proofs.Bools.{and-right, and-both, or-none}
-use Rattle.positions.specs.Spans.{every}
 use Rattle.positions.specs.Map.{mapSize}
+use Rattle.runs.specs.Offers as offers
 use Rattle.runs.specs.Offers.{heldIn, bufferWith, inside, Stores}
-use Rattle.runs.proofs.OfferLaws.{is-inside, when-inside}
+use Rattle.runs.proofs.OfferLaws.{is-inside, when-inside, agrees-told}
 use Rattle.reception.specs.Reception.{longest, Reception, wrongLength, shortSpace}
-use Rattle.reception.specs.Adding.{ofReception, agreesAt, agrees, newIn, Adds}
+use Rattle.reception.specs.Adding.{ofReception, agrees, newIn, Adds}
 use Rattle.reception.specs.Joining.{joining, joinedNew}
 use Rattle.reception.specs.declared.Added.the-variants.{Accepted, Refused}
 use Rattle.reception.proofs.OfferLaws.{right-length, enough-space, adds-refused, adds-counted}
 use Rattle.reception.proofs.GivenReasons.{joins-7, joins-12, joins-9, joins-11, joins}
 use Rattle.reception.proofs.join.Statement.{statement}
 use Rattle.reception.proofs.join.Tie as tie
+
+-- what was asked of the positions below the first's length is asked of those below the second's
+joined-agrees : (s t : Reception) (l : ℕ) → l ≡ t .length → (fits : Bool) → fits ≡ true → (r : Bool)
+    → r ≡ (fits && offers.agrees (s .map) (s .buffer) (heldIn l (t .map) (t .buffer))) → agrees s (ofReception t) ≡ r
+joined-agrees s t l e fits is r told =
+    subst (λ (k : ℕ). offers.agrees (s .map) (s .buffer) (heldIn k (t .map) (t .buffer)) ≡ r) e
+    (agrees-told fits is (s .map) (s .buffer) (heldIn l (t .map) (t .buffer)) r told)
 
 -- what was stored of the positions below the first's length are those below the second's
 module _ (s t : Reception) (l : ℕ) (fits : Bool) (is : fits ≡ true) (e : l ≡ t .length) (r : ℕ) (map buffer : List ℕ)
@@ -123,10 +130,6 @@ enough c =
     let e = lengths c in
     (l .1, first .0, first .1, omega (arith, e, second), omega (arith, e, second))
 
--- what is asked of the positions below the first's length is asked of those below the second's
-agreed : (c : tie.Else3) → agrees (s (T c)) (ofReception (t (T c))) ≡ every (agreesAt (s (T c)) (ofReception (t (T c)))) 0 (T c .args .length)
-agreed c = ap (every (agreesAt (s (T c)) (ofReception (t (T c)))) 0) (sym (lengths c))
-
 within : (c : tie.Else3)
     → (inside (s (T c) .map) (s (T c) .buffer) 0 (T c .args .length) && inside (t (T c) .map) (t (T c) .buffer) 0 (T c .args .length)) ≡ true
 within c =
@@ -143,8 +146,7 @@ told : (c : tie.After-both-agree)
     → agrees (s (T (c .before .before .before))) (ofReception (t (T (c .before .before .before)))) ≡ c .both-agree .result
 told c =
     let f = c .before .before .before in
-    agreed f
-    ∙ sym (c .both-agree .ensures ∙ ap (λ (i : Bool). i && every (agreesAt (s (T f)) (ofReception (t (T f)))) 0 (T f .args .length)) (within f))
+    joined-agrees (s (T f)) (t (T f)) (T f .args .length) (lengths f) _ (within f) (c .both-agree .result) (c .both-agree .ensures)
 
 same-length-5 : tie.Need-same-length-5
 same-length-5 c = search needs

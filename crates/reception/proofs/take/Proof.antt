@@ -1,7 +1,7 @@
 -- `reception::take` meets its contract: the tests in their order, then the positions are marked and the bytes written.
 -- Assumes nothing.
-use mathlib.Core.Path.{_≡_, refl, sym, ap, _∙_}
-use mathlib.Core.Bool.{Bool, true, false, _&&_}
+use mathlib.Core.Path.{_≡_, refl, sym, _∙_}
+use mathlib.Core.Bool.{true, false}
 use Prim.Native.Nat.{ℕ, _+_, _≤_}
 use native.Mathlib.Omega.{arith}
 use lib.ListN.{length}
@@ -9,7 +9,7 @@ use borrow.Author.Tests.{not-false}
 use borrow.Author.Needs.{needs}
 use Rattle.positions.specs.Map.{mapSize}
 use Rattle.runs.specs.Offers.{inside}
-use Rattle.runs.proofs.OfferLaws.{is-inside, when-inside, piece-stored}
+use Rattle.runs.proofs.OfferLaws.{is-inside, when-inside, agrees-told, piece-stored}
 use Rattle.reception.specs.Reception.{longest, Reception, PieceData, wrongLength, shortSpace}
 use Rattle.reason.specs.Answer.{refused}
 use Rattle.reception.specs.Adding.{ofPiece, agrees, newIn, Adds}
@@ -127,7 +127,7 @@ agreed : (c : tie.After-piece-agrees)
     → agrees (s (T (c .before .before .before))) (ofPiece (x (T (c .before .before .before)))) ≡ c .piece-agrees .result
 agreed c =
     let k = T (c .before .before .before) in
-    sym (c .piece-agrees .ensures ∙ ap (λ (i : Bool). i && agrees (s k) (ofPiece (x k))) (within (c .before .before .before)))
+    agrees-told _ (within (c .before .before .before)) (s k .map) (s k .buffer) (ofPiece (x k)) (c .piece-agrees .result) (c .piece-agrees .ensures)
 
 same-length-9 : tie.Need-same-length-9
 same-length-9 c = search needs

@@ -1,4 +1,4 @@
--- `record::load` meets its contract: two tests, then the map and the bytes are written.
+-- `record::load` meets its contract: two tests, then the map and the buffer are written.
 -- Assumes nothing.
 use mathlib.Core.Path.{_≡_, sym, ap, _∙_}
 use mathlib.Core.Bool.{true}

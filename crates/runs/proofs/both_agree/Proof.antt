@@ -5,7 +5,7 @@ use mathlib.Core.Bool.{Bool, true, _&&_}
 use borrow.Author.Tests.{not-true, not-false}
 use borrow.Author.Needs.{needs}
 use Rattle.runs.specs.Offers.{heldIn, agrees, inside}
-use Rattle.runs.proofs.OfferLaws.{both-inside}
+use Rattle.runs.proofs.OfferLaws.{both-inside, agrees-inside}
 use Rattle.runs.proofs.both_agree.Statement.{statement}
 use Rattle.runs.proofs.both_agree.Tie as tie
 
@@ -38,9 +38,8 @@ returns-2 : tie.Need-returns-2
 returns-2 c =
     let e = c .before in
     let x = S (e .before) .args in
-    c .agree .ensures
-    ∙ sym
-    (ap (λ (i : Bool). i && agrees (x .map .now) (x .buffer .now) (heldIn (x .n) (x .other .now) (x .bytes .now))) (tested (e .before) ∙ not-false _ (e .if1 .left)))
+    agrees-inside _ (tested (e .before) ∙ not-false _ (e .if1 .left)) (x .map .now) (x .buffer .now) (heldIn (x .n) (x .other .now) (x .bytes .now))
+    (c .agree .result) (c .agree .ensures)
 
 pub both-agree-spec : {M : Type 1} → statement M
 both-agree-spec =

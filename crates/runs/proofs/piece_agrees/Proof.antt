@@ -6,7 +6,7 @@ use lib.ListN.{length}
 use borrow.Author.Tests.{not-true, not-false}
 use borrow.Author.Needs.{needs}
 use Rattle.runs.specs.Offers.{pieceAt, agrees, inside}
-use Rattle.runs.proofs.OfferLaws.{inside-says, piece-agrees}
+use Rattle.runs.proofs.OfferLaws.{inside-says, agrees-inside, piece-agrees}
 use Rattle.runs.proofs.piece_agrees.Statement.{statement}
 use Rattle.runs.proofs.piece_agrees.Tie as tie
 
@@ -34,9 +34,8 @@ agree-requires c κs =
 returns-2 : tie.Need-returns-2
 returns-2 c =
     let x = S (c .before .before) .args in
-    c .agree .ensures
-    ∙ piece-agrees (x .map .now) (x .buffer .now) (x .at) (x .piece .now)
-    ∙ sym (ap (λ (i : Bool). i && agrees (x .map .now) (x .buffer .now) (pieceAt (x .at) (x .piece .now))) (fits (c .before)))
+    agrees-inside _ (fits (c .before)) (x .map .now) (x .buffer .now) (pieceAt (x .at) (x .piece .now)) (c .agree .result)
+    (piece-agrees (x .map .now) (x .buffer .now) (x .at) (x .piece .now) (c .agree .result) (c .agree .ensures))
 
 pub piece-agrees-spec : {M : Type 1} → statement M
 piece-agrees-spec = tie.close (tie.spec inside-requires returns agree-requires returns-2)

@@ -1,6 +1,6 @@
 -- `positions::search::first_on` meets its contract: each byte is looked at once, and what is passed over is on the other side.
 -- Assumes nothing.
-use mathlib.Core.Path.{_≡_, ap, _∙_}
+use mathlib.Core.Path.{_≡_, ap}
 use mathlib.Core.Bool.{Bool, false, not}
 use Prim.Native.Nat.{ℕ, _+_, _-_, _/_, _%_, _^_, _≤_, _<_}
 use native.Mathlib.Omega.{arith}
@@ -10,7 +10,7 @@ use Rattle.octets.specs.Numbers.{byteAt, AllBytes}
 use Rattle.positions.specs.Spans.{first}
 use Rattle.positions.proofs.SpanLaws.{first-from, first-by, no-between}
 use Rattle.positions.specs.Inner.{onSide, sideOf, noneOf}
-use Rattle.positions.proofs.SideLaws.{stops, stops-short, goes-on, not-found}
+use Rattle.positions.proofs.SideLaws.{stops, stops-short, goes-on, not-found, other-is}
 use Rattle.positions.proofs.search.first_on.Statement.{statement}
 use Rattle.positions.proofs.search.first_on.Tie as tie
 
@@ -89,10 +89,9 @@ D c = c .before .before .before
 next : (c : tie.After-other-than Inv-loop μ-loop)
     → c .other-than .result ≡ first (λ i. not (eqb (byteAt (S (D c) .args .map .now) i) (noneOf (S (D c) .args .side)))) (L (D c) .loop .p / 8 + 1) ((S (D c) .args .n + 7) / 8 - (L (D c) .loop .p / 8 + 1))
 next c =
-    let m = S (D c) .args .map .now in
     let i = L (D c) .loop .p / 8 + 1 in
-    c .other-than .ensures
-    ∙ ap (λ (b : ℕ). first (λ j. not (eqb (byteAt m j) b)) i ((S (D c) .args .n + 7) / 8 - i)) (c .before .none-of .ensures)
+    other-is (S (D c) .args .map .now) i ((S (D c) .args .n + 7) / 8 - i) (c .before .none-of .result) (S (D c) .args .side) (c .before .none-of .ensures)
+    (c .other-than .result) (c .other-than .ensures)
 
 further : (c : tie.After-other-than Inv-loop μ-loop)
     → (L (D c) .loop .p / 8 + 1 ≤ c .other-than .result) × (c .other-than .result ≤ (S (D c) .args .n + 7) / 8)

@@ -1,4 +1,4 @@
--- `record::reading::buffer_by` meets its contract: the part from the bytes' place on, of the length.
+-- `record::reading::buffer_by` meets its contract: the part from the buffer's place on, of the length.
 -- Assumes nothing.
 use mathlib.Core.Path.{ap, _∙_}
 use Prim.Native.Nat.{ℕ}

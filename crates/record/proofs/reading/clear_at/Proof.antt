@@ -18,7 +18,7 @@ is-set-requires : tie.Need-is-set-requires
 is-set-requires c κs = search needs
 
 returns : tie.Need-returns
-returns c = let a = c .before .before .before .args in ap (λ (w : Bool). w || eqb (byteAt (a .bytes .now) (a .p)) 0) (c .is-set .ensures)
+returns c = let a = c .before .before .before .args in ap (λ (w : Bool). w || eqb (byteAt (a .buffer .now) (a .p)) 0) (c .is-set .ensures)
 
 pub clear-at-spec : {M : Type 1} → statement M
 clear-at-spec = tie.close (tie.spec shared-slice-read-byte sub-is-set is-set-requires returns)

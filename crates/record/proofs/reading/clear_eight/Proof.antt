@@ -12,19 +12,19 @@ use Rattle.record.proofs.reading.clear_eight.Statement.{statement}
 use Rattle.record.proofs.reading.clear_eight.Tie as tie
 
 abbrev Inv-loop : tie.InvT-loop
-Inv-loop b bytes from clear₀ k₀ clear k = (k ≤ 8) × (clear ≡ every (clearAt b bytes from) from k)
+Inv-loop b buffer from clear₀ k₀ clear k = (k ≤ 8) × (clear ≡ every (clearAt b buffer from) from k)
 
 abbrev μ-loop : tie.MeasureT-loop
-μ-loop b bytes from clear₀ k₀ clear k = 8 - k
+μ-loop b buffer from clear₀ k₀ clear k = 8 - k
 
 abbrev T : tie.Start Inv-loop μ-loop → ℕ → Bool
-T s = clearAt (s .args .b) (s .args .bytes .now) (s .args .from)
+T s = clearAt (s .args .b) (s .args .buffer .now) (s .args .from)
 
 returns : tie.Need-returns Inv-loop μ-loop
 returns c =
     let s = c .before .before in
     sym
-    (all-if (T s) (s .args .from) 8 (λ q l g. full-clear (s .args .b) (s .args .bytes .now) (s .args .from) q (c .if1 .taken) (omega arith)))
+    (all-if (T s) (s .args .from) 8 (λ q l g. full-clear (s .args .b) (s .args .buffer .now) (s .args .from) q (c .if1 .taken) (omega arith)))
 
 loop-holds : tie.Need-loop-holds Inv-loop μ-loop
 loop-holds c = let s = c .before .before in (omega arith, sym (every-none (T s) (s .args .from)))
@@ -45,7 +45,7 @@ loop-again : tie.Need-loop-again Inv-loop μ-loop
 loop-again c =
     let b = c .before .before in
     let s = b .before .before .before in
-    (omega arith, clear-more (s .args .b) (s .args .bytes .now) (s .args .from) (b .loop .k) _ _ (b .loop .inv .1) (c .clear-at .ensures))
+    (omega arith, clear-more (s .args .b) (s .args .buffer .now) (s .args .from) (b .loop .k) _ _ (b .loop .inv .1) (c .clear-at .ensures))
 
 returns-2 : tie.Need-returns-2 Inv-loop μ-loop
 returns-2 c =

@@ -12,13 +12,13 @@ use Rattle.record.proofs.reading.clear_few.Statement.{statement}
 use Rattle.record.proofs.reading.clear_few.Tie as tie
 
 abbrev Inv-loop : tie.InvT-loop
-Inv-loop b bytes from n clear₀ k₀ clear k = (k ≤ n) × (clear ≡ every (clearAt b bytes from) from k)
+Inv-loop b buffer from n clear₀ k₀ clear k = (k ≤ n) × (clear ≡ every (clearAt b buffer from) from k)
 
 abbrev μ-loop : tie.MeasureT-loop
-μ-loop b bytes from n clear₀ k₀ clear k = n - k
+μ-loop b buffer from n clear₀ k₀ clear k = n - k
 
 abbrev T : tie.Start Inv-loop μ-loop → ℕ → Bool
-T s = clearAt (s .args .b) (s .args .bytes .now) (s .args .from)
+T s = clearAt (s .args .b) (s .args .buffer .now) (s .args .from)
 
 loop-holds : tie.Need-loop-holds Inv-loop μ-loop
 loop-holds c = (omega arith, sym (every-none (T (c .before)) (c .before .args .from)))
@@ -39,7 +39,7 @@ loop-again : tie.Need-loop-again Inv-loop μ-loop
 loop-again c =
     let b = c .before .before in
     let s = b .before .before in
-    (omega arith, clear-more (s .args .b) (s .args .bytes .now) (s .args .from) (b .loop .k) _ _ (b .loop .inv .1) (c .clear-at .ensures))
+    (omega arith, clear-more (s .args .b) (s .args .buffer .now) (s .args .from) (b .loop .k) _ _ (b .loop .inv .1) (c .clear-at .ensures))
 
 returns : tie.Need-returns Inv-loop μ-loop
 returns c =

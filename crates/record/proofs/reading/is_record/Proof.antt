@@ -10,7 +10,7 @@ use borrow.Author.Needs.{needs}
 use Rattle.reception.specs.Reception.{wrongLength}
 use Rattle.record.specs.Record.{recordLength}
 use Rattle.record.specs.Reading.{fieldsRight}
-use Rattle.record.proofs.GivenAnswers.{fails-length, fails-size, fails-fields, fails-spare, by-unheld, map-enough, bytes-enough}
+use Rattle.record.proofs.GivenAnswers.{fails-length, fails-size, fails-fields, fails-spare, by-unheld, map-enough, buffer-enough}
 use Rattle.record.proofs.reading.is_record.Statement.{statement}
 use Rattle.record.proofs.reading.is_record.Tie as tie
 
@@ -81,7 +81,7 @@ unheld-clear-requires c κs =
     let m = c .before .before .before in
     let d = m .before .before .before in
     let s = S (E d) in
-    bytes-enough (s .args .saved .now) (s .args .l) (s .pre) (right (E d)) (long d) (m .map-by .result .now) (c .buffer-by .result .now)
+    buffer-enough (s .args .saved .now) (s .args .l) (s .pre) (right (E d)) (long d) (m .map-by .result .now) (c .buffer-by .result .now)
     (m .map-by .ensures) (c .buffer-by .ensures)
 
 returns-5 : tie.Need-returns-5

@@ -14,10 +14,10 @@ use Rattle.record.proofs.reading.unheld_clear.Statement.{statement}
 use Rattle.record.proofs.reading.unheld_clear.Tie as tie
 
 abbrev Inv-loop : tie.InvT-loop
-Inv-loop map bytes l p₀ p = (p ≤ l) × (p % 8 ≡ 0) × ((q : ℕ) → 0 ≤ q → q < p → (held map q || eqb (byteAt bytes q) 0) ≡ true)
+Inv-loop map buffer l p₀ p = (p ≤ l) × (p % 8 ≡ 0) × ((q : ℕ) → 0 ≤ q → q < p → (held map q || eqb (byteAt buffer q) 0) ≡ true)
 
 abbrev μ-loop : tie.MeasureT-loop
-μ-loop map bytes l p₀ p = l - p
+μ-loop map buffer l p₀ p = l - p
 
 loop-holds : tie.Need-loop-holds Inv-loop μ-loop
 loop-holds c = (omega arith, omega arith, λ q l g. absurd (no-between 0 q l g))
@@ -42,7 +42,7 @@ returns c =
     let d = L (c .before) in
     let s = S d in
     sym
-    (clear-fails (s .args .map .now) (s .args .bytes .now) (d .loop .p) 8 (d .loop .inv .1) (omega arith) (s .args .l) (omega arith)
+    (clear-fails (s .args .map .now) (s .args .buffer .now) (d .loop .p) 8 (d .loop .inv .1) (omega arith) (s .args .l) (omega arith)
     (sym (c .before .clear-eight .ensures) ∙ not-true (c .before .clear-eight .result) (c .if1 .taken)))
 
 add-p : tie.Need-add-p Inv-loop μ-loop
@@ -57,7 +57,7 @@ loop-again c =
     let s = S d in (
       omega arith,
       omega arith,
-      clear-passes (s .args .map .now) (s .args .bytes .now) (d .loop .p) 8 (d .loop .inv .1) (omega arith) (d .loop .inv .2)
+      clear-passes (s .args .map .now) (s .args .buffer .now) (d .loop .p) 8 (d .loop .inv .1) (omega arith) (d .loop .inv .2)
           (sym (c .before .clear-eight .ensures) ∙ not-false (c .before .clear-eight .result) (c .if1 .left)),
     )
 
@@ -66,7 +66,7 @@ returns-2 c =
     let d = c .before .before in
     let s = S d in
     sym
-    (all-if (λ p. held (s .args .map .now) p || eqb (byteAt (s .args .bytes .now) p) 0) 0 (s .args .l) (λ q l g. d .loop .inv .2 q l (omega arith)))
+    (all-if (λ p. held (s .args .map .now) p || eqb (byteAt (s .args .buffer .now) p) 0) 0 (s .args .l) (λ q l g. d .loop .inv .2 q l (omega arith)))
 
 shared-slice-read-clear-few : tie.Need-shared-slice-read-clear-few Inv-loop μ-loop
 shared-slice-read-clear-few c = let d = c .before .if2 .left in omega (arith, d)
@@ -81,7 +81,7 @@ returns-3 : tie.Need-returns-3 Inv-loop μ-loop
 returns-3 c =
     let d = c .before .before .before .before in
     let s = S d in
-    clear-last (s .args .map .now) (s .args .bytes .now) (d .loop .p) (s .args .l - d .loop .p) (d .loop .inv .1) (omega arith) (d .loop .inv .2)
+    clear-last (s .args .map .now) (s .args .buffer .now) (d .loop .p) (s .args .l - d .loop .p) (d .loop .inv .1) (omega arith) (d .loop .inv .2)
     (s .args .l) (omega arith) (c .clear-few .result) (c .clear-few .ensures)
 
 pub unheld-clear-spec : {M : Type 1} → statement M

@@ -4,8 +4,7 @@ use mathlib.Core.Path.{_≡_, sym, _∙_}
 use mathlib.Core.Bool.{true}
 use Prim.Native.Nat.{ℕ, _-_, _≤_, _<_}
 use native.Mathlib.Omega.{arith}
-use borrow.Author.Tests.{not-true, not-false}
-use Rattle.positions.proofs.SpanLaws.{all-if, not-all, no-between, one-more}
+use Rattle.positions.proofs.SpanLaws.{all-if, no-between, not-all-by, one-more-by}
 use Rattle.runs.specs.Inner.{bitAgrees}
 use Rattle.runs.proofs.EightLaws.{whole, none-asked, all-asked}
 use Rattle.runs.proofs.eights.agree_byte.Statement.{statement}
@@ -52,7 +51,7 @@ returns-3 c =
     let x = c .before .before .before .before .before .before .before .before .args in
     let l = c .before .before .before in
     sym
-    (not-all (bitAgrees (x .asked) (x .buffer .now) (x .at) (x .piece .now) (x .from)) (x .from) (x .end - x .from) (l .loop .p) (l .loop .inv .0) (omega arith) (sym (c .before .agrees-at .ensures) ∙ not-true (c .before .agrees-at .result) (c .if3 .taken)))
+    (not-all-by (bitAgrees (x .asked) (x .buffer .now) (x .at) (x .piece .now) (x .from)) (l .loop .p) (c .before .agrees-at .result) (c .before .agrees-at .ensures) (x .from) (x .end - x .from) (l .loop .inv .0) (omega arith) (c .if3 .taken))
 
 add-p : tie.Need-add-p Inv-loop μ-loop
 add-p c = omega arith
@@ -66,8 +65,8 @@ loop-again c =
     let l = c .before .before .before in (
       omega arith,
       omega arith,
-      one-more (bitAgrees (x .asked) (x .buffer .now) (x .at) (x .piece .now) (x .from)) (x .from) (l .loop .p) (l .loop .inv .2)
-          (sym (c .before .agrees-at .ensures) ∙ not-false (c .before .agrees-at .result) (c .if3 .left)),
+      one-more-by (bitAgrees (x .asked) (x .buffer .now) (x .at) (x .piece .now) (x .from)) (l .loop .p) (c .before .agrees-at .result)
+          (c .before .agrees-at .ensures) (x .from) (l .loop .inv .2) (c .if3 .left),
     )
 
 returns-4 : tie.Need-returns-4 Inv-loop μ-loop

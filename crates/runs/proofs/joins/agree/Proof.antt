@@ -1,10 +1,9 @@
 -- `runs::joins::agree` meets its contract: the bytes so far agree, and the last positions decide.
 -- Assumes nothing.
-use mathlib.Core.Path.{_≡_, sym, _∙_}
+use mathlib.Core.Path.{_≡_, sym}
 use mathlib.Core.Bool.{true}
 use Prim.Native.Nat.{ℕ, _+_, _-_, _%_, _≤_, _<_}
 use native.Mathlib.Omega.{arith}
-use borrow.Author.Tests.{not-true, not-false}
 use Rattle.positions.proofs.SpanLaws.{all-if, no-between}
 use Rattle.runs.specs.Inner.{bothAgree}
 use Rattle.runs.proofs.JoinSteps.{byte-fails, byte-passes, byte-decides}
@@ -47,7 +46,7 @@ returns c =
     let s = S d in
     sym
     (byte-fails (s .args .map .now) (s .args .buffer .now) (s .args .other .now) (s .args .bytes .now) (d .loop .p) (d .loop .p + 8) (s .args .n) (d .loop .inv .1) (omega arith) (omega arith) (omega arith)
-    (sym (c .before .agree-byte .ensures) ∙ not-true (c .before .agree-byte .result) (c .if1 .taken)))
+    (c .before .agree-byte .result) (c .before .agree-byte .ensures) (c .if1 .taken))
 
 add-p : tie.Need-add-p Inv-loop μ-loop
 add-p c = omega arith
@@ -63,7 +62,7 @@ loop-again c =
       omega arith,
       byte-passes (s .args .map .now) (s .args .buffer .now) (s .args .other .now) (s .args .bytes .now) (d .loop .p) (d .loop .p + 8)
           (d .loop .inv .1) (omega arith) (omega arith)
-          (sym (c .before .agree-byte .ensures) ∙ not-false (c .before .agree-byte .result) (c .if1 .left)) (d .loop .inv .2),
+          (c .before .agree-byte .result) (c .before .agree-byte .ensures) (c .if1 .left) (d .loop .inv .2),
     )
 
 returns-2 : tie.Need-returns-2 Inv-loop μ-loop

@@ -61,9 +61,8 @@ told : (c : tie.After-agree-byte Inv-loop μ-loop)
 told c =
     let d = c .before .before in
     let w = inside d in
-    c .agree-byte .ensures
-    ∙ rest-agrees (S d .args .map .now) (S d .args .buffer .now) (S d .args .at) (S d .args .piece .now) (L d .loop .p) (d .byte-end .result)
-    (omega (arith, w)) (w .1)
+    rest-agrees (S d .args .map .now) (S d .args .buffer .now) (S d .args .at) (S d .args .piece .now) (L d .loop .p) (d .byte-end .result)
+    (omega (arith, w)) (w .1) (c .agree-byte .result) (c .agree-byte .ensures)
 
 returns : tie.Need-returns Inv-loop μ-loop
 returns c =
