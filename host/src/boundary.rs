@@ -41,7 +41,14 @@ extern "C" {
         second_buffer_size: usize,
         new: &mut u32,
     ) -> u8;
-    fn station_list(length: u32, map: *const u8, map_size: usize, place: u32, start: &mut u32, size: &mut u32) -> u8;
+    fn station_list(
+        length: u32,
+        map: *const u8,
+        map_size: usize,
+        place: u32,
+        start: &mut u32,
+        hole_length: &mut u32,
+    ) -> u8;
     fn station_save(
         number: u32,
         length: u32,
@@ -79,7 +86,7 @@ extern "C" {
     ) -> u8;
     fn station_write_start(destination: u64, source: u64, number: u32, target: *mut u8, target_size: usize) -> u8;
     fn station_read_request(frame: *const u8, frame_size: usize, told: &mut [u64; 5]) -> u8;
-    fn station_hole(frame: *const u8, frame_size: usize, index: u32, start: &mut u32, size: &mut u32) -> u8;
+    fn station_hole(frame: *const u8, frame_size: usize, index: u32, start: &mut u32, hole_length: &mut u32) -> u8;
     fn station_entry(frame: *const u8, frame_size: usize, told: &mut [u64; 9], values: &mut [u64; 12]) -> u8;
     fn station_header(bytes: *const u8, bytes_size: usize, number: u32, size: &mut usize, values: &mut [u64; 12])
         -> u8;
@@ -200,13 +207,13 @@ pub fn join(
     })
 }
 
-/// Tells start and size of the first hole that starts at a place or later.
+/// Tells start and length of the first hole that starts at a place or later.
 ///
 /// # Errors
 ///
 /// Refuses 7, 12, 15.
-pub fn list(length: u32, map: &[u8], place: u32, start: &mut u32, size: &mut u32) -> Result<(), Reason> {
-    answer(unsafe { station_list(length, map.as_ptr(), map.len(), place, start, size) })
+pub fn list(length: u32, map: &[u8], place: u32, start: &mut u32, hole_length: &mut u32) -> Result<(), Reason> {
+    answer(unsafe { station_list(length, map.as_ptr(), map.len(), place, start, hole_length) })
 }
 
 /// Writes a reception as a record into the first bytes of a target, and tells how many they are.
@@ -371,13 +378,13 @@ pub fn read_request(frame: &[u8], told: &mut RequestTold) -> Result<(), Reason> 
     answer(returned)
 }
 
-/// Tells start and size of the hole with an index, from 0, in a request frame; both 0 beyond its count.
+/// Tells start and length of the hole with an index, from 0, in a request frame; both 0 beyond its count.
 ///
 /// # Errors
 ///
 /// Refuses as [`read_request`] does.
-pub fn hole(frame: &[u8], index: u32, start: &mut u32, size: &mut u32) -> Result<(), Reason> {
-    answer(unsafe { station_hole(frame.as_ptr(), frame.len(), index, start, size) })
+pub fn hole(frame: &[u8], index: u32, start: &mut u32, hole_length: &mut u32) -> Result<(), Reason> {
+    answer(unsafe { station_hole(frame.as_ptr(), frame.len(), index, start, hole_length) })
 }
 
 told! {

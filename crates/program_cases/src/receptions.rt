@@ -135,19 +135,19 @@ fn changes(c: &[u32; 32], now: &[u8], then: &[u8]) -> u32 {
     )
 }
 
-// Lists: the reason, then the first position of the hole, and how many it has.
+// Lists: the reason, then start and length of the hole.
 fn listed(c: &[u32; 32]) -> [u32; 4] {
     let map = map(c[K], c[R]);
     let mut start = UNTOLD;
-    let mut size = UNTOLD;
+    let mut length = UNTOLD;
     let reason = station::boundary::station_list(
         c[L],
         counts::first(&map, c[M]),
         c[E],
         &mut start,
-        &mut size,
+        &mut length,
     );
-    [reason as u32, start, size, 0]
+    [reason as u32, start, length, 0]
 }
 
 // Saves: the reason, then the size of the record, and how many bytes of the target changed.

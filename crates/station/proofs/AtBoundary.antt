@@ -35,7 +35,7 @@ use Rattle.record.specs.Loading.{loadingChecks}
 use Rattle.record.proofs.GivenAnswers.{room-to-save}
 use Rattle.record.proofs.RoundTrip.{record-stands}
 use Rattle.record.proofs.InOrder.{save-in-order, load-in-order}
-use Rattle.station.specs.Taking.{pieceDataIn, takingOrder, takingFrame}
+use Rattle.taking.specs.Taking.{pieceDataIn, takingOrder, takingFrame}
 use Rattle.station.specs.Lent.{receptionIn}
 use Rattle.station.specs.AddressNumber.{addressOf}
 use Rattle.station.specs.Boundary.{code, Exported}

@@ -24,7 +24,7 @@ use Rattle.record.specs.Record.{recordOf}
 use Rattle.record.specs.Saving.{saving}
 use Rattle.record.specs.Reading.{isRecord}
 use Rattle.record.specs.Loading.{loading}
-use Rattle.station.specs.Taking.{takingFrame}
+use Rattle.taking.specs.Taking.{takingFrame}
 use Rattle.station.specs.AddressNumber.{addressOf}
 use Rattle.station.specs.BoundaryCases.{BoundaryCases}
 

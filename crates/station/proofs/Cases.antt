@@ -19,7 +19,7 @@ use Rattle.reception.specs.Joining.{joining}
 use Rattle.holes.specs.Listing.{listing}
 use Rattle.request.specs.Request.{requestFrame}
 use Rattle.request.specs.Writing.{filling}
-use Rattle.station.specs.Taking.{takingFrame}
+use Rattle.taking.specs.Taking.{takingFrame}
 use Rattle.station.specs.Cases.{Cases}
 
 pub cases : Cases

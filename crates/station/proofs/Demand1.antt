@@ -69,7 +69,7 @@ use Rattle.record.specs.Saving.{saving, savedAnswer}
 use Rattle.record.specs.Reading.{readRecord, recordAnswer}
 use Rattle.record.specs.Loading.{loading, loadedMap, loadedBuffer}
 use Rattle.record.proofs.InOrder.{save-in-order, load-in-order, read-record-in-order}
-use Rattle.station.specs.Taking.{pieceDataIn, takingOrder, takingFrame}
+use Rattle.taking.specs.Taking.{pieceDataIn, takingOrder, takingFrame}
 use Rattle.station.specs.Boundary.{code}
 use Rattle.station.specs.Demand1.{lastReason, Answers, nothing, Demand1}
 use Rattle.station.specs.Lent.{Lent, receptionIn}

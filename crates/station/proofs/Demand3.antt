@@ -20,7 +20,7 @@ use Rattle.holes.proofs.NoneLeft.{none-left-is-the-file}
 use Rattle.record.specs.Record.{recordOf}
 use Rattle.record.specs.Loading.{loaded}
 use Rattle.record.proofs.RoundTrip as saved
-use Rattle.station.specs.Taking.{takingFrame, takenFrame}
+use Rattle.taking.specs.Taking.{takingFrame, takenFrame}
 use Rattle.station.specs.Sequences.{takenFrames, inPiece, fitsFile, covered}
 use Rattle.station.specs.Stations.{Station, receptionOf, Made, framesIn}
 use Rattle.station.specs.Demand3.{Demand3}

@@ -1,7 +1,6 @@
 pub mod Cases
 pub mod BoundaryCases
 pub mod MoreCases
-pub mod TakingLaws
 pub mod AddressLaws
 pub mod ExportLaws
 pub mod RequestExportLaws

@@ -13,7 +13,7 @@ use Rattle.reception.proofs.LentSpace.{all-of-it, opened-beyond}
 use Rattle.record.specs.Record.{recordOf}
 use Rattle.record.specs.Loading.{loaded}
 use Rattle.record.proofs.RoundTrip.{itself-is-given-back, loaded-beyond}
-use Rattle.station.specs.Taking.{takenFrame}
+use Rattle.taking.specs.Taking.{takenFrame}
 use Rattle.station.specs.Sequences.{takenFrames, covered, AllAgree}
 use Rattle.station.specs.Stations.{Station, fresh, receptionOf, Made, by-opening, by-taking, by-joining, by-loading, framesIn}
 use Rattle.station.proofs.StationLaws.{holds-fitting, same-coverage, beyond-unchanged, and-then, join-is-both}

@@ -24,12 +24,12 @@ use Rattle.reception.specs.Opening.{opening}
 use Rattle.reception.specs.Joining.{joining}
 use Rattle.holes.specs.Listing.{listing}
 use Rattle.record.specs.Record.{recordOf}
-use Rattle.station.specs.Taking.{takingFrame}
 use Rattle.reception.specs.Fitting.{AgreesWith}
-use Rattle.station.specs.Taking.{pieceDataIn}
+use Rattle.taking.specs.Taking.{pieceDataIn, takingFrame}
+use Rattle.taking.specs.Examples.{front}
 use Rattle.station.specs.Sequences.{AllAgree}
 use Rattle.station.specs.Stations.{Station, Made, by-opening, by-taking, by-joining, by-loading}
-use Rattle.station.specs.Cases.{twenty, front}
+use Rattle.station.specs.Cases.{twenty}
 use Rattle.station.specs.MoreCases.{file, heard, ten, eighteen, handedOn, MoreCases}
 
 bytes-of-three : AllBytes (replicate 3 0xFF)
@@ -104,8 +104,5 @@ more-cases = record {
   differing-leaves = refl;
   refused-covers-nothing = refl;
   in-their-order = refl;
-  frame-before-length = refl;
-  length-before-number = refl;
-  at-65536 = refl;
   hole-of-16 = refl;
 }

@@ -19,9 +19,9 @@ use Rattle.reception.specs.Contents.{HoldsOf, beyond}
 use Rattle.reception.proofs.Holding as holding
 use Rattle.reception.proofs.HoldingLaws as laws
 use Rattle.reception.proofs.LentSpace.{taken-beyond}
-use Rattle.station.specs.Taking.{pieceDataIn, takingFrame, takenFrame}
+use Rattle.taking.specs.Taking.{pieceDataIn, takingFrame, takenFrame}
 use Rattle.station.specs.Sequences.{inPiece, fitsFile, AgreesIfFits}
-use Rattle.station.proofs.TakingLaws.{frame-refused, frame-accepted, frame-leaves, frame-taken}
+use Rattle.taking.proofs.TakingLaws.{frame-refused, frame-accepted, frame-leaves, frame-taken}
 
 -- a property of a reception, by another that is the same
 carry : (P : Reception → Type 0) (s t : Reception) → s ≡ t → P t → P s

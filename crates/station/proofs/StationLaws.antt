@@ -20,7 +20,7 @@ use Rattle.reception.proofs.GivenReasons.{opens-only-if}
 use Rattle.reception.proofs.Holding.{told, same-reception, opened-holds, joined-holds}
 use Rattle.reception.proofs.HoldingLaws.{as-long, held-after}
 use Rattle.reception.proofs.LentSpace.{all-of-it, joined-beyond}
-use Rattle.station.specs.Taking.{pieceDataIn, takingFrame, takenFrame}
+use Rattle.taking.specs.Taking.{pieceDataIn, takingFrame, takenFrame}
 use Rattle.station.specs.Sequences.{takenFrames, inPiece, coveredIn, fitsFile, covered, AllAgree}
 use Rattle.station.specs.Stations.{Station, fresh, receptionOf}
 use Rattle.station.proofs.OneFrame.{accepted-is-fitting, frame-holds, frame-beyond}

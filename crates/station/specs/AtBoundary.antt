@@ -23,7 +23,7 @@ use Rattle.request.specs.Writing.{Wanted, fillChecks, startChecks}
 use Rattle.record.specs.Record.{recordOf}
 use Rattle.record.specs.Saving.{savingChecks}
 use Rattle.record.specs.Loading.{loadingChecks, loaded}
-use Rattle.station.specs.Taking.{takingOrder, takenFrame}
+use Rattle.taking.specs.Taking.{takingOrder, takenFrame}
 use Rattle.station.specs.AddressNumber.{addressNumber, addressOf}
 use Rattle.station.specs.Lent.{Lent, receptionIn}
 use Rattle.station.specs.Demand1.{lastReason}

@@ -19,7 +19,8 @@ use Rattle.station.specs.AddressNumber.{addressNumber, addressOf}
 use Rattle.station.specs.Exports.{OpensOut, Counted, TakesOut, JoinsOut, ListsOut, SavesOut, LoadsOut}
 use Rattle.station.specs.FrameExports.{PieceOut, EntryTold, EntryOut, HeaderTold, HeaderOut, extensionNumber, uploadedOf, uploadOf}
 use Rattle.station.specs.RequestExports.{headTold, WrittenRequest, FillsOut, StartsOut, RequestOut, HoleOut}
-use Rattle.station.specs.Cases.{twenty, front, middle, later}
+use Rattle.taking.specs.Examples.{front}
+use Rattle.station.specs.Cases.{twenty, middle, later}
 
 -- VA3SFL-0 and UOSAT5-11 as numbers
 abbrev pub va3sflNumber : ℕ

@@ -4,7 +4,7 @@ use mathlib.Core.List.{List, [], _∷_}
 use Prim.Native.Nat.{ℕ}
 use Rattle.reception.specs.declared.Added.{Added}
 use Rattle.station.specs.Lent.{Lent, receptionIn}
-use Rattle.station.specs.Taking.{TakesFrame}
+use Rattle.taking.specs.Taking.{TakesFrame}
 
 -- from what is lent at first, over frames, to what is left at last; each call answers something and leaves something that meets its
 -- promise

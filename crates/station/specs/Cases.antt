@@ -14,35 +14,24 @@ use Rattle.ax25.specs.Examples.{va3sfl, va3sflBytes, uosat5, uosat5Bytes}
 use Rattle.header.specs.Header.{headerSum}
 use Rattle.header.specs.Figure.{figure31}
 use Rattle.frame.specs.Piece.{readPiece}
-use Rattle.frame.specs.Making.{pieceFrame}
 use Rattle.reception.specs.Reception.{Reception}
-use Rattle.reception.specs.Opening.{opening, opened}
+use Rattle.reception.specs.Opening.{opening}
 use Rattle.reception.specs.Joining.{joining, joined}
 use Rattle.holes.specs.EveryHole.{listedFrom}
 use Rattle.request.specs.Writing.{Wanted, filling, fillFrame}
-use Rattle.station.specs.Taking.{takingFrame}
+use Rattle.taking.specs.Taking.{takingFrame}
+use Rattle.taking.specs.Examples.{frameAt, front, openedTwenty, longestFile}
 use Rattle.station.specs.Sequences.{takenFrames}
-
--- a frame with a piece of file 7 at a position, its check bytes right
-abbrev pub frameAt : ℕ → List ℕ → List ℕ
-frameAt offset bytes = pieceFrame (record { head = record { destination = va3sfl; source = uosat5 11 }; number = 7; kind = 0; offset = offset }) bytes
 
 -- a reception of file 7 with length 20, opened in space that held something else, after frames
 abbrev pub twenty : List (List ℕ) → Reception
-twenty frames = takenFrames (opened 7 20 (replicate 3 0xFF) (replicate 20 0xFF)) frames
+twenty frames = takenFrames openedTwenty frames
 
 -- what its station asks for
 abbrev pub wanted : Reception → Wanted
 wanted s = record { head = record { destination = uosat5 11; source = va3sfl }; number = s .number; length = s .length; map = s .map }
 
--- the longest file, opened
-abbrev pub longestFile : Reception
-longestFile = opened 7 32768 (replicate 4096 0xFF) (replicate 32768 0xFF)
-
--- ABCD at 0, CDEFGHIJ at 2, EF at 8
-abbrev pub front : List ℕ
-front = frameAt 0 (0x41 ∷ 0x42 ∷ 0x43 ∷ 0x44 ∷ [])
-
+-- CDEFGHIJ at 2, EF at 8
 abbrev pub middle : List ℕ
 middle = frameAt 2 (0x43 ∷ 0x44 ∷ 0x45 ∷ 0x46 ∷ 0x47 ∷ 0x48 ∷ 0x49 ∷ 0x4A ∷ [])
 

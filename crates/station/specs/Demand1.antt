@@ -32,7 +32,7 @@ use Rattle.record.specs.Record.{recordLength}
 use Rattle.record.specs.Saving.{savingChecks, savedAnswer, Saves}
 use Rattle.record.specs.Reading.{isRecord, recordedIn, readRecord, recordAnswer}
 use Rattle.record.specs.Loading.{loadingChecks, Loads}
-use Rattle.station.specs.Taking.{pieceDataIn, takingOrder, TakesFrame}
+use Rattle.taking.specs.Taking.{pieceDataIn, takingOrder, TakesFrame}
 use Rattle.station.specs.Lent.{Lent, receptionIn}
 
 -- the numbered reasons are 1 to 15

@@ -29,7 +29,7 @@ use Rattle.record.specs.Saving.{savedAnswer, Saves}
 use Rattle.record.specs.Reading.{recordAnswer}
 use Rattle.record.specs.Loading.{loaded, Loads}
 use Rattle.station.specs.Lent.{Lent, receptionIn}
-use Rattle.station.specs.Taking.{pieceDataIn, takingFrame, takenFrame, TakesFrame}
+use Rattle.taking.specs.Taking.{pieceDataIn, takingFrame, takenFrame, TakesFrame}
 use Rattle.station.specs.Sequences.{takenFrames, inPiece, coveredIn, fitsFile, covered}
 use Rattle.station.specs.Stations.{Station, fresh, receptionOf, Made, framesIn}
 use Rattle.station.specs.Calls.{Calls}

@@ -13,7 +13,7 @@ use Rattle.holes.specs.Listing.{listing}
 use Rattle.record.specs.Record.{recordOf}
 use Rattle.record.specs.Saving.{saving}
 use Rattle.record.specs.Loading.{loading, loaded}
-use Rattle.station.specs.Taking.{pieceDataIn, takingFrame}
+use Rattle.taking.specs.Taking.{pieceDataIn, takingFrame}
 use Rattle.station.specs.Lent.{Lent}
 use Rattle.station.specs.Boundary.{Exported}
 

@@ -1,4 +1,3 @@
-pub mod Taking
 pub mod Lent
 pub mod Boundary
 pub mod AddressNumber

@@ -5,7 +5,7 @@ use mathlib.Core.Bool.{false}
 use mathlib.Core.List.{List, [], _∷_, _++_}
 use Prim.Native.Nat.{ℕ}
 use lib.ListN.{set, take, replicate}
-use Rattle.reason.specs.Answer.{accepted, refused}
+use Rattle.reason.specs.Answer.{accepted}
 use Rattle.octets.specs.Lists.{OneOf}
 use Rattle.ax25.specs.Examples.{va3sfl, uosat5}
 use Rattle.frame.specs.Making.{pieceFrame}
@@ -14,10 +14,11 @@ use Rattle.reception.specs.Joining.{joined}
 use Rattle.holes.specs.Listing.{listing}
 use Rattle.record.specs.Record.{recordOf}
 use Rattle.record.specs.Loading.{loaded}
-use Rattle.station.specs.Taking.{takingFrame, takenFrame}
+use Rattle.taking.specs.Taking.{takenFrame}
+use Rattle.taking.specs.Examples.{frameAt, front}
 use Rattle.station.specs.Sequences.{coveredIn}
 use Rattle.station.specs.Stations.{Station, receptionOf, Made}
-use Rattle.station.specs.Cases.{frameAt, twenty, longestFile, front}
+use Rattle.station.specs.Cases.{twenty}
 use Rattle.station.specs.BoundaryCases.{entryFrame}
 
 -- a file, and what a station hears of it: a piece, one of another file, one that ends beyond the file, one that was damaged on its
@@ -57,9 +58,5 @@ pub record MoreCases : Type 0 where
   pub differing-leaves : takenFrame (twenty (front ∷ [])) differing ≡ twenty (front ∷ [])
   pub refused-covers-nothing : coveredIn (twenty []) (front ∷ differing ∷ []) 4 ≡ false
   pub in-their-order : twenty (front ∷ differing ∷ []) .map ≡ 0x0F ∷ 0x00 ∷ 0x00 ∷ []
-  -- the frame's reasons come before 7 (L), and that before 9
-  pub frame-before-length : takingFrame (record { number = 7; length = 0; map = []; buffer = [] }) [] ≡ refused 1
-  pub length-before-number : takingFrame (record { number = 8; length = 0; map = []; buffer = [] }) front ≡ refused 7
-  -- the offset has three bytes; start and length of a hole are told apart
-  pub at-65536 : takingFrame longestFile (frameAt 65536 (0x41 ∷ [])) ≡ refused 10
+  -- start and length of a hole are told apart
   pub hole-of-16 : listing 20 (twenty (front ∷ []) .map) 0 ≡ accepted (record { start = 4; length = 16 })

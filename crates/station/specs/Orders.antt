@@ -15,7 +15,7 @@ use Rattle.request.specs.Reading.{requestOrder}
 use Rattle.request.specs.Writing.{Wanted, fillChecks, startChecks}
 use Rattle.record.specs.Saving.{savingChecks}
 use Rattle.record.specs.Loading.{loadingChecks}
-use Rattle.station.specs.Taking.{takingOrder}
+use Rattle.taking.specs.Taking.{takingOrder}
 
 -- the numbers of checks, in their order
 abbrev pub numbersOf : List Check → List ℕ

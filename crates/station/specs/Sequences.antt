@@ -12,7 +12,7 @@ use Rattle.positions.specs.Spans.{within}
 use Rattle.frame.specs.Piece.{readPiece}
 use Rattle.reception.specs.Reception.{Reception}
 use Rattle.reception.specs.Fitting.{fits, AgreesWith}
-use Rattle.station.specs.Taking.{pieceDataIn, takingFrame, takenFrame}
+use Rattle.taking.specs.Taking.{pieceDataIn, takingFrame, takenFrame}
 
 -- the reception after a sequence of frames, taken in one after the other
 abbrev pub takenFrames : Reception → List (List ℕ) → Reception

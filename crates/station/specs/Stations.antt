@@ -11,7 +11,7 @@ use Rattle.reception.specs.Opening.{opening, opened}
 use Rattle.reception.specs.Joining.{joined}
 use Rattle.record.specs.Record.{recordOf}
 use Rattle.record.specs.Loading.{loaded}
-use Rattle.station.specs.Taking.{takenFrame}
+use Rattle.taking.specs.Taking.{takenFrame}
 use Rattle.station.specs.Sequences.{takenFrames, AgreesIfFits, AllAgree}
 
 -- A station: the map (a list of bytes) and the buffer that it was lent, of any length in which the file opens, and the frames that it

@@ -39,7 +39,7 @@ pub extern "C" fn station_take(
     ensures { λ r. ⌜ TakesOut number length (now (frame .entry)) (record { new = now (new .entry); map = now (map .entry); buffer = now (buffer .entry) })
         r (record { new = now (new .exit); map = now (map .exit); buffer = now (buffer .exit) }) ⌝ }
 {
-    let added = super::take(number, length, map, buffer, frame);
+    let added = taking::take(number, length, map, buffer, frame);
     tell_new(added, new)
 }
 
@@ -75,22 +75,22 @@ pub extern "C" fn station_join(
     tell_new(added, new)
 }
 
-// Lists a hole, as `holes::list`, and tells its first position and how many it has: 7, 12, 15.
+// Lists a hole, as `holes::list`, and tells its start and its length: 7, 12, 15.
 #[no_mangle]
 pub extern "C" fn station_list(
     length: u32,
     map: &[u8],
     place: u32,
     start: &mut u32,
-    size: &mut u32,
+    hole_length: &mut u32,
 ) -> u8
-    ensures { λ r. ⌜ ListsOut length (now (map .entry)) place (record { start = now (start .entry); length = now (size .entry) })
-        r (record { start = now (start .exit); length = now (size .exit) }) ⌝ }
+    ensures { λ r. ⌜ ListsOut length (now (map .entry)) place (record { start = now (start .entry); length = now («hole_length» .entry) })
+        r (record { start = now (start .exit); length = now («hole_length» .exit) }) ⌝ }
 {
     match holes::list(length, map, place) {
         Listed::Accepted(hole) => {
             *start = hole.start;
-            *size = hole.length;
+            *hole_length = hole.length;
             0
         }
         Listed::Refused(n) => n,

@@ -60,7 +60,6 @@ pub mod boundary;
 pub mod frame_boundary;
 pub mod request_boundary;
 
-use frame::PieceRead;
 pub use frame::header_bytes;
 pub use frame::header_of;
 pub use frame::piece_bytes;
@@ -84,29 +83,4 @@ pub use request::hole_of;
 pub use request::read_request;
 pub use request::write_fill;
 pub use request::write_start;
-ghost use Rattle.station.specs.Taking.{TakesFrame};
-
-// Takes a frame into the reception of the file with a number and a length, and answers how many positions
-// are newly held: 0 for a repeat. It refuses 1 (below 16), 2, 3, 4, 7 (over 255), 1 (information), 6, 5,
-// 7 (no data), as `read_piece`, and then 7 (L), 12, 9, 10, 11.
-pub fn take(number: u32, length: u32, map: &mut [u8], buffer: &mut [u8], frame: &[u8]) -> Added
-    ensures { λ r. ⌜ TakesFrame (record { number = number; length = length; map = now (map .entry); buffer = now (buffer .entry) })
-        (now (frame .entry)) r (now (map .exit)) (now (buffer .exit)) ⌝ }
-{
-    let read = frame::read_piece(frame);
-    match read {
-        PieceRead::Accepted(piece) => {
-            let bytes = frame::piece_of(frame, read);
-            reception::take(
-                number,
-                length,
-                map,
-                buffer,
-                piece.number,
-                piece.offset,
-                bytes,
-            )
-        }
-        PieceRead::Refused(n) => Added::Refused(n),
-    }
-}
+pub use taking::take;

@@ -80,19 +80,24 @@ pub extern "C" fn station_read_request(frame: &[u8], told: &mut [u64; 5]) -> u8
     }
 }
 
-// Tells the first position of the hole with an index, counted from 0, in a request frame, and how many it has;
-// both are 0 beyond the request's count. It refuses as `station_read_request` does.
+// Tells start and length of the hole with an index, counted from 0, in a request frame; both are 0 beyond the
+// request's count. It refuses as `station_read_request` does.
 #[no_mangle]
-pub extern "C" fn station_hole(frame: &[u8], index: u32, start: &mut u32, size: &mut u32) -> u8
-    ensures { λ r. ⌜ HoleOut (now (frame .entry)) index (record { start = now (start .entry); length = now (size .entry) })
-        r (record { start = now (start .exit); length = now (size .exit) }) ⌝ }
+pub extern "C" fn station_hole(
+    frame: &[u8],
+    index: u32,
+    start: &mut u32,
+    hole_length: &mut u32,
+) -> u8
+    ensures { λ r. ⌜ HoleOut (now (frame .entry)) index (record { start = now (start .entry); length = now («hole_length» .entry) })
+        r (record { start = now (start .exit); length = now («hole_length» .exit) }) ⌝ }
 {
     let read = request::read_request(frame);
     match read {
         RequestRead::Accepted(_) => {
             let hole = request::hole_of(frame, read, index);
             *start = hole.start;
-            *size = hole.length;
+            *hole_length = hole.length;
             0
         }
         RequestRead::Refused(n) => n,

@@ -14,7 +14,7 @@ use Rattle.reception.specs.Reception.{Reception, PieceData}
 use Rattle.reception.specs.Adding.{ofPiece, newIn, after}
 use Rattle.reception.specs.Taking.{takingChecks, taking, taken, Takes}
 use Rattle.reception.proofs.OfferLaws.{adds-refused}
-use Rattle.station.specs.Taking.{pieceDataIn, takingFrame, takenFrame, TakesFrame}
+use Rattle.taking.specs.Taking.{pieceDataIn, takingFrame, takenFrame, TakesFrame}
 
 -- what an accepted frame says
 pub read-is : (frame : List ℕ) (p : framed.Piece) → readPiece frame ≡ accepted p → p ≡ pieceOf frame

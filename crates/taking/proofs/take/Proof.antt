@@ -1,4 +1,4 @@
--- `station::take` meets its contract: by what reading the frame answers.
+-- `taking::take` meets its contract: by what reading the frame answers.
 -- Assumes nothing.
 use mathlib.Core.Path.{_≡_, sym, ap, _∙_}
 use denote.Ref.{now}
@@ -6,9 +6,9 @@ use borrow.Author.Needs.{needs}
 use Rattle.reason.specs.Answer.{accepted}
 use Rattle.frame.specs.Piece.{readPiece, pieceAnswer}
 use Rattle.reception.specs.Reception.{Reception}
-use Rattle.station.proofs.TakingLaws.{takes-no-piece, takes-piece}
-use Rattle.station.proofs.take.Statement.{statement}
-use Rattle.station.proofs.take.Tie as tie
+use Rattle.taking.proofs.TakingLaws.{takes-no-piece, takes-piece}
+use Rattle.taking.proofs.take.Statement.{statement}
+use Rattle.taking.proofs.take.Tie as tie
 
 read-piece-requires : tie.Need-read-piece-requires
 read-piece-requires c κs = search needs
