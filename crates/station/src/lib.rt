@@ -5,7 +5,7 @@
 //
 //   operation      does                                           refuses                    its promise
 //   open           clears the map and the buffer of a file        7, 12                      reception, specs/Opening
-//   take           takes a frame into a reception                 the frame's, 7, 12, 9,     station, specs/Taking
+//   take           takes a frame into a reception                 the frame's, 7, 12, 9,     taking, specs/Taking
 //                                                                 10, 11
 //   join           puts a second reception into the first         7, 12, 9, 11               reception, specs/Joining
 //   list           the first hole at a place or later             7, 12, 15                  holes, specs/Listing
