@@ -33,7 +33,7 @@ bitAgrees asked buffer at piece from p = not (isSet asked (p - from)) || sameAt 
 
 -- a position that both maps hold has the same byte in both buffers
 abbrev pub bothAgree : List ℕ → List ℕ → List ℕ → List ℕ → ℕ → Bool
-bothAgree map buffer other bytes p = not (held map p && held other p) || eqb (byteAt buffer p) (byteAt bytes p)
+bothAgree map buffer secondMap secondBuffer p = not (held map p && held secondMap p) || eqb (byteAt buffer p) (byteAt secondBuffer p)
 
 -- Of the n positions from p on, those that `has` tells are now held, and r of them were not before.
 pub record MapRun (map : List ℕ) (has : ℕ → Bool) (p n : ℕ) (map′ : List ℕ) (r : ℕ) : Type 0 where

@@ -74,5 +74,6 @@ PutsPiece map buffer at piece r map′ buffer′ =
 
 -- The promise of `add_held`: the bytes of new positions are copied.
 abbrev pub AddsHeld : List ℕ → List ℕ → List ℕ → List ℕ → ℕ → ℕ → List ℕ → List ℕ → Type 0
-AddsHeld map buffer other bytes n r map′ buffer′ =
-    Stores (inside map buffer 0 n && inside other bytes 0 n) map buffer (heldIn n other bytes) (bufferWith map buffer (heldIn n other bytes)) r map′ buffer′
+AddsHeld map buffer secondMap secondBuffer n r map′ buffer′ =
+    let offer = heldIn n secondMap secondBuffer in
+    Stores (inside map buffer 0 n && inside secondMap secondBuffer 0 n) map buffer offer (bufferWith map buffer offer) r map′ buffer′

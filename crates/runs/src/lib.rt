@@ -54,23 +54,35 @@ pub fn put_piece(map: &mut [u8], buffer: &mut [u8], at: usize, piece: &[u8]) -> 
 
 // Whether two maps and buffers agree at each of the first n positions that both hold; false where these do not
 // lie inside both.
-pub fn both_agree(map: &[u8], buffer: &[u8], other: &[u8], bytes: &[u8], n: usize) -> bool
-    ensures { λ r. ⌜ r ≡ (inside (now (map .entry)) (now (buffer .entry)) 0 n && inside (now (other .entry)) (now (bytes .entry)) 0 n
-        && agrees (now (map .entry)) (now (buffer .entry)) (heldIn n (now (other .entry)) (now (bytes .entry)))) ⌝ }
+pub fn both_agree(
+    map: &[u8],
+    buffer: &[u8],
+    second_map: &[u8],
+    second_buffer: &[u8],
+    n: usize,
+) -> bool
+    ensures { λ r. ⌜ r ≡ (inside (now (map .entry)) (now (buffer .entry)) 0 n && inside (now («second_map» .entry)) (now («second_buffer» .entry)) 0 n
+        && agrees (now (map .entry)) (now (buffer .entry)) (heldIn n (now («second_map» .entry)) (now («second_buffer» .entry)))) ⌝ }
 {
-    if !(inside(map, buffer, 0, n) & inside(other, bytes, 0, n)) {
+    if !(inside(map, buffer, 0, n) & inside(second_map, second_buffer, 0, n)) {
         return false;
     }
-    joins::agree(map, buffer, other, bytes, n)
+    joins::agree(map, buffer, second_map, second_buffer, n)
 }
 
 // Copies each of the first n positions that only the second map holds into the first; how many they are. Where
 // these do not lie inside both, nothing changes.
-pub fn add_held(map: &mut [u8], buffer: &mut [u8], other: &[u8], bytes: &[u8], n: usize) -> u32
-    ensures { λ r. ⌜ AddsHeld (now (map .entry)) (now (buffer .entry)) (now (other .entry)) (now (bytes .entry)) n r (now (map .exit)) (now (buffer .exit)) ⌝ }
+pub fn add_held(
+    map: &mut [u8],
+    buffer: &mut [u8],
+    second_map: &[u8],
+    second_buffer: &[u8],
+    n: usize,
+) -> u32
+    ensures { λ r. ⌜ AddsHeld (now (map .entry)) (now (buffer .entry)) (now («second_map» .entry)) (now («second_buffer» .entry)) n r (now (map .exit)) (now (buffer .exit)) ⌝ }
 {
-    if !(inside(map, buffer, 0, n) & inside(other, bytes, 0, n)) {
+    if !(inside(map, buffer, 0, n) & inside(second_map, second_buffer, 0, n)) {
         return 0;
     }
-    joins::add(map, buffer, other, bytes, n)
+    joins::add(map, buffer, second_map, second_buffer, n)
 }

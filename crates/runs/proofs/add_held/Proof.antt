@@ -26,22 +26,22 @@ abbrev S : tie.After-inside2 → tie.Start
 S c = c .before .before .before .before .before .before .before .before
 
 tested : (c : tie.After-inside2)
-    → (inside (S c .args .map .now) (S c .args .buffer .now) 0 (S c .args .n) && inside (S c .args .other .now) (S c .args .bytes .now) 0 (S c .args .n))
+    → (inside (S c .args .map .now) (S c .args .buffer .now) 0 (S c .args .n) && inside (S c .args .second-map .now) (S c .args .second-buffer .now) 0 (S c .args .n))
     ≡ (c .before .inside .result && c .inside2 .result)
 tested c = sym (ap₂ _&&_ (c .before .inside .ensures) (c .inside2 .ensures))
 
 returns : tie.Need-returns
 returns c =
     let x = S (c .before) .args in
-    let o = heldIn (x .n) (x .other .now) (x .bytes .now) in
-    stores-nothing (inside (x .map .now) (x .buffer .now) 0 (x .n) && inside (x .other .now) (x .bytes .now) 0 (x .n)) (x .map .now) (x .buffer .now) o
+    let o = heldIn (x .n) (x .second-map .now) (x .second-buffer .now) in
+    stores-nothing (inside (x .map .now) (x .buffer .now) 0 (x .n) && inside (x .second-map .now) (x .second-buffer .now) 0 (x .n)) (x .map .now) (x .buffer .now) o
     (bufferWith (x .map .now) (x .buffer .now) o) (tested (c .before) ∙ not-true _ (c .if1 .taken))
 
 add-requires : tie.Need-add-requires
 add-requires c κs =
     let e = c .before .before in
     let x = S (e .before) .args in
-    both-inside (x .map .now) (x .buffer .now) (x .other .now) (x .bytes .now) (x .n) (tested (e .before) ∙ not-false _ (e .if1 .left))
+    both-inside (x .map .now) (x .buffer .now) (x .second-map .now) (x .second-buffer .now) (x .n) (tested (e .before) ∙ not-false _ (e .if1 .left))
 
 same-length-3 : tie.Need-same-length-3
 same-length-3 c = search needs
@@ -53,11 +53,11 @@ returns-2 : tie.Need-returns-2
 returns-2 c =
     let e = c .before .before .before .before .before .before .before in
     let x = S (e .before) .args in
-    let o = heldIn (x .n) (x .other .now) (x .bytes .now) in
+    let o = heldIn (x .n) (x .second-map .now) (x .second-buffer .now) in
     let done = c .before .before .before .before .add .ensures in
-    stores-run (inside (x .map .now) (x .buffer .now) 0 (x .n) && inside (x .other .now) (x .bytes .now) 0 (x .n)) (x .map .now) (x .buffer .now) o
+    stores-run (inside (x .map .now) (x .buffer .now) 0 (x .n) && inside (x .second-map .now) (x .second-buffer .now) 0 (x .n)) (x .map .now) (x .buffer .now) o
     (bufferWith (x .map .now) (x .buffer .now) o) (tested (e .before) ∙ not-false _ (e .if1 .left)) _ _ _ (done .0)
-    (run-buffer (λ q. held (x .other .now) q && not (held (x .map .now) q)) (x .bytes .now) (x .buffer .now) 0 (x .n) _ (done .1))
+    (run-buffer (λ q. held (x .second-map .now) q && not (held (x .map .now) q)) (x .second-buffer .now) (x .buffer .now) 0 (x .n) _ (done .1))
 
 pub add-held-spec : {M : Type 1} → statement M
 add-held-spec =

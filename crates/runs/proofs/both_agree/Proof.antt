@@ -19,7 +19,7 @@ abbrev S : tie.After-inside2 → tie.Start
 S c = c .before .before .before .before .before .before
 
 tested : (c : tie.After-inside2)
-    → (inside (S c .args .map .now) (S c .args .buffer .now) 0 (S c .args .n) && inside (S c .args .other .now) (S c .args .bytes .now) 0 (S c .args .n))
+    → (inside (S c .args .map .now) (S c .args .buffer .now) 0 (S c .args .n) && inside (S c .args .second-map .now) (S c .args .second-buffer .now) 0 (S c .args .n))
     ≡ (c .before .inside .result && c .inside2 .result)
 tested c = sym (ap₂ _&&_ (c .before .inside .ensures) (c .inside2 .ensures))
 
@@ -27,18 +27,18 @@ returns : tie.Need-returns
 returns c =
     let x = S (c .before) .args in
     sym
-    (ap (λ (i : Bool). i && agrees (x .map .now) (x .buffer .now) (heldIn (x .n) (x .other .now) (x .bytes .now))) (tested (c .before) ∙ not-true _ (c .if1 .taken)))
+    (ap (λ (i : Bool). i && agrees (x .map .now) (x .buffer .now) (heldIn (x .n) (x .second-map .now) (x .second-buffer .now))) (tested (c .before) ∙ not-true _ (c .if1 .taken)))
 
 agree-requires : tie.Need-agree-requires
 agree-requires c κs =
     let x = S (c .before) .args in
-    both-inside (x .map .now) (x .buffer .now) (x .other .now) (x .bytes .now) (x .n) (tested (c .before) ∙ not-false _ (c .if1 .left))
+    both-inside (x .map .now) (x .buffer .now) (x .second-map .now) (x .second-buffer .now) (x .n) (tested (c .before) ∙ not-false _ (c .if1 .left))
 
 returns-2 : tie.Need-returns-2
 returns-2 c =
     let e = c .before in
     let x = S (e .before) .args in
-    agrees-inside _ (tested (e .before) ∙ not-false _ (e .if1 .left)) (x .map .now) (x .buffer .now) (heldIn (x .n) (x .other .now) (x .bytes .now))
+    agrees-inside _ (tested (e .before) ∙ not-false _ (e .if1 .left)) (x .map .now) (x .buffer .now) (heldIn (x .n) (x .second-map .now) (x .second-buffer .now))
     (c .agree .result) (c .agree .ensures)
 
 pub both-agree-spec : {M : Type 1} → statement M

@@ -14,20 +14,20 @@ use Rattle.runs.proofs.joins.add.Statement.{statement}
 use Rattle.runs.proofs.joins.add.Tie as tie
 
 abbrev Inv-loop : tie.InvT-loop
-Inv-loop map₀ buffer₀ other bytes n new₀ p₀ map buffer new p =
-    (p ≤ n) × (p % 8 ≡ 0) × MapRun map₀ (held other) 0 p map new
-    × BufferRun (λ q. held other q && not (held map₀ q)) bytes buffer₀ 0 p buffer
+Inv-loop map₀ buffer₀ second-map second-buffer n new₀ p₀ map buffer new p =
+    (p ≤ n) × (p % 8 ≡ 0) × MapRun map₀ (held second-map) 0 p map new
+    × BufferRun (λ q. held second-map q && not (held map₀ q)) second-buffer buffer₀ 0 p buffer
 
 abbrev μ-loop : tie.MeasureT-loop
-μ-loop map₀ buffer₀ other bytes n new₀ p₀ map buffer new p = n - p
+μ-loop map₀ buffer₀ second-map second-buffer n new₀ p₀ map buffer new p = n - p
 
 loop-holds : tie.Need-loop-holds Inv-loop μ-loop
 loop-holds c =
     let x = c .before .before .before .before .args in (
       omega arith,
       refl,
-      run-none (x .map .now) (held (x .other .now)) 0 (λ i. c .before .before .before .slice-known .given i .fits),
-      copy-none (λ q. held (x .other .now) q && not (held (x .map .now) q)) (x .bytes .now) (x .buffer .now) 0,
+      run-none (x .map .now) (held (x .second-map .now)) 0 (λ i. c .before .before .before .slice-known .given i .fits),
+      copy-none (λ q. held (x .second-map .now) q && not (held (x .map .now) q)) (x .second-buffer .now) (x .buffer .now) 0,
     )
 
 add-loop : tie.Need-add-loop Inv-loop μ-loop
@@ -51,19 +51,19 @@ L c = c .before .before .before .before .before .before .before .before .before
 
 -- the bytes so far and this one
 byte-joined : (c : tie.After-slice-known4 Inv-loop μ-loop)
-    → MapRun (S (L c) .args .map .now) (held (S (L c) .args .other .now)) 0 (L c .loop .p + 8)
+    → MapRun (S (L c) .args .map .now) (held (S (L c) .args .second-map .now)) 0 (L c .loop .p + 8)
     (c .before .before .before .before .add-byte .last .0) (L c .loop .new + c .before .before .before .before .add-byte .result)
 byte-joined c =
     let d = L c in
     let x = S d .args in
-    runs-on (x .map .now) (x .other .now) 0 (d .loop .p) (d .loop .map) (d .loop .new) (d .loop .inv .2) (d .loop .p) 8 (d .loop .p + 8)
+    runs-on (x .map .now) (x .second-map .now) 0 (d .loop .p) (d .loop .map) (d .loop .new) (d .loop .inv .2) (d .loop .p) 8 (d .loop .p + 8)
     (zero-add (d .loop .p)) refl _ _
-    (byte-told (d .loop .map) (x .other .now) (d .loop .p) (d .loop .inv .1) _ _ (c .before .before .before .before .add-byte .ensures .0))
+    (byte-told (d .loop .map) (x .second-map .now) (d .loop .p) (d .loop .inv .1) _ _ (c .before .before .before .before .add-byte .ensures .0))
 
 add-new : tie.Need-add-new Inv-loop μ-loop
 add-new c =
     let x = S (L c) .args in
-    let most = run-most (x .map .now) (held (x .other .now)) 0 (L c .loop .p + 8) _ _ (byte-joined c) in
+    let most = run-most (x .map .now) (held (x .second-map .now)) 0 (L c .loop .p + 8) _ _ (byte-joined c) in
     omega (arith, most)
 
 add-p : tie.Need-add-p Inv-loop μ-loop
@@ -79,9 +79,9 @@ loop-again c =
       omega arith,
       omega arith,
       byte-joined c,
-      copies-on (x .map .now) (x .other .now) 0 (d .loop .p) (d .loop .map) (d .loop .new) (d .loop .inv .2) (d .loop .p) 8 (d .loop .p + 8)
-          (zero-add (d .loop .p)) refl (x .bytes .now) (x .buffer .now) (d .loop .buffer) _ (d .loop .inv .3)
-          (byte-copied-told (d .loop .map) (x .other .now) (d .loop .p) (d .loop .inv .1) (x .bytes .now) (d .loop .buffer) _
+      copies-on (x .map .now) (x .second-map .now) 0 (d .loop .p) (d .loop .map) (d .loop .new) (d .loop .inv .2) (d .loop .p) 8 (d .loop .p + 8)
+          (zero-add (d .loop .p)) refl (x .second-buffer .now) (x .buffer .now) (d .loop .buffer) _ (d .loop .inv .3)
+          (byte-copied-told (d .loop .map) (x .second-map .now) (d .loop .p) (d .loop .inv .1) (x .second-buffer .now) (d .loop .buffer) _
           (c .before .before .before .before .add-byte .ensures .1)),
     )
 
@@ -97,28 +97,28 @@ E c = c .before .before .before .before .before .before .before .before
 
 -- all positions are joined
 map-joined : (c : tie.After-slice-known6 Inv-loop μ-loop)
-    → MapRun (S (E c) .args .map .now) (held (S (E c) .args .other .now)) 0 (S (E c) .args .n)
+    → MapRun (S (E c) .args .map .now) (held (S (E c) .args .second-map .now)) 0 (S (E c) .args .n)
     (c .before .before .before .before .add-rest .last .0) (E c .loop .new + c .before .before .before .before .add-rest .result)
 map-joined c =
     let d = E c in
     let x = S d .args in
-    runs-on (x .map .now) (x .other .now) 0 (d .loop .p) (d .loop .map) (d .loop .new) (d .loop .inv .2) (d .loop .p) (x .n - d .loop .p) (x .n)
+    runs-on (x .map .now) (x .second-map .now) 0 (d .loop .p) (d .loop .map) (d .loop .new) (d .loop .inv .2) (d .loop .p) (x .n - d .loop .p) (x .n)
     (zero-add (d .loop .p)) (omega arith) _ _ (c .before .before .before .before .add-rest .ensures .0)
 
 buffer-joined : (c : tie.After-slice-known6 Inv-loop μ-loop)
-    → BufferRun (λ q. held (S (E c) .args .other .now) q && not (held (S (E c) .args .map .now) q)) (S (E c) .args .bytes .now)
+    → BufferRun (λ q. held (S (E c) .args .second-map .now) q && not (held (S (E c) .args .map .now) q)) (S (E c) .args .second-buffer .now)
     (S (E c) .args .buffer .now) 0 (S (E c) .args .n) (c .before .before .before .before .add-rest .last .1 .0)
 buffer-joined c =
     let d = E c in
     let x = S d .args in
-    copies-on (x .map .now) (x .other .now) 0 (d .loop .p) (d .loop .map) (d .loop .new) (d .loop .inv .2) (d .loop .p) (x .n - d .loop .p) (x .n)
-    (zero-add (d .loop .p)) (omega arith) (x .bytes .now) (x .buffer .now) (d .loop .buffer) _ (d .loop .inv .3)
+    copies-on (x .map .now) (x .second-map .now) 0 (d .loop .p) (d .loop .map) (d .loop .new) (d .loop .inv .2) (d .loop .p) (x .n - d .loop .p) (x .n)
+    (zero-add (d .loop .p)) (omega arith) (x .second-buffer .now) (x .buffer .now) (d .loop .buffer) _ (d .loop .inv .3)
     (c .before .before .before .before .add-rest .ensures .1)
 
 add-result : tie.Need-add-result Inv-loop μ-loop
 add-result c =
     let x = S (E c) .args in
-    let most = run-most (x .map .now) (held (x .other .now)) 0 (x .n) _ _ (map-joined c) in
+    let most = run-most (x .map .now) (held (x .second-map .now)) 0 (x .n) _ _ (map-joined c) in
     omega (arith, most)
 
 same-length : tie.Need-same-length Inv-loop μ-loop

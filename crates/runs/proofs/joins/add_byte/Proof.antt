@@ -23,7 +23,7 @@ returns c =
     let x = s .args in
     let all : AllBytes (x .map .now) = λ i. c .before .slice-known3 .given i .fits in (
       byte-nothing (x .map .now) (x .theirs) (x .from) (s .pre .0) (s .pre .1) all (s .fits .theirs .fits) (c .if1 .taken),
-      byte-not-copied (x .map .now) (x .theirs) (x .from) (s .pre .0) (s .pre .1) all (s .fits .theirs .fits) (c .if1 .taken) (x .bytes .now)
+      byte-not-copied (x .map .now) (x .theirs) (x .from) (s .pre .0) (s .pre .1) all (s .fits .theirs .fits) (c .if1 .taken) (x .second-buffer .now)
           (x .buffer .now),
     )
 
@@ -48,7 +48,7 @@ returns-2 c =
     let x = s .args in
     let all : AllBytes (x .map .now) = λ i. c .before .before .before .before .before .before .slice-known3 .given i .fits in (
       byte-held (x .map .now) (x .theirs) (x .from) (s .pre .0) (s .pre .1) all (s .fits .theirs .fits) _ (c .count-set .ensures),
-      byte-copied (x .map .now) (x .theirs) (x .from) (s .pre .0) (s .pre .1) all (s .fits .theirs .fits) (x .bytes .now)
+      byte-copied (x .map .now) (x .theirs) (x .from) (s .pre .0) (s .pre .1) all (s .fits .theirs .fits) (x .second-buffer .now)
           (x .buffer .now) _ (c .before .before .before .copy-whole .ensures),
     )
 

@@ -20,7 +20,7 @@ S c = c .before .before .before .before .before .before .before
 
 -- what the test says of the position
 tested : (c : tie.After-is-held2)
-    → (held (S c .args .other .now) (S c .args .p) && not (held (S c .args .map .now) (S c .args .p)))
+    → (held (S c .args .second-map .now) (S c .args .p) && not (held (S c .args .map .now) (S c .args .p)))
     ≡ (c .before .before .is-held .result && not (c .is-held2 .result))
 tested c = sym (ap₂ (λ (x y : Bool). x && not y) (c .before .before .is-held .ensures) (c .is-held2 .ensures))
 
@@ -44,8 +44,8 @@ returns c =
     let t = c .before .before .before .before .before in
     let x = S (t .before) .args in
     let e = tested (t .before) ∙ t .if1 .taken in (
-      one-held (x .map .now) (x .other .now) (x .p) e _ (c .before .before .before .mark .ensures),
-      one-copied (x .map .now) (x .other .now) (x .p) e (x .bytes .now) (x .buffer .now) (omega arith),
+      one-held (x .map .now) (x .second-map .now) (x .p) e _ (c .before .before .before .mark .ensures),
+      one-copied (x .map .now) (x .second-map .now) (x .p) e (x .second-buffer .now) (x .buffer .now) (omega arith),
     )
 
 same-length-3 : tie.Need-same-length-3
@@ -55,8 +55,8 @@ returns-2 : tie.Need-returns-2
 returns-2 c =
     let x = S (c .before) .args in
     let e = tested (c .before) ∙ c .if1 .left in (
-      one-nothing (x .map .now) (x .other .now) (x .p) e (λ i. c .before .before .before .before .before .before .before .slice-known .given i .fits),
-      one-not-copied (x .map .now) (x .other .now) (x .p) e (x .bytes .now) (x .buffer .now),
+      one-nothing (x .map .now) (x .second-map .now) (x .p) e (λ i. c .before .before .before .before .before .before .before .slice-known .given i .fits),
+      one-not-copied (x .map .now) (x .second-map .now) (x .p) e (x .second-buffer .now) (x .buffer .now),
     )
 
 pub add-one-spec : {M : Type 1} → statement M

@@ -21,18 +21,18 @@ none m o d b from all =
     rw e (run-none m (held o) from all, copy-none (λ q. held o q && not (held m q)) d b from)
 
 abbrev Inv-loop : tie.InvT-loop
-Inv-loop map₀ buffer₀ other bytes from n new₀ p₀ map buffer new p =
-    (from ≤ p) × (p ≤ n) × MapRun map₀ (held other) from (p - from) map new
-    × BufferRun (λ q. held other q && not (held map₀ q)) bytes buffer₀ from (p - from) buffer
+Inv-loop map₀ buffer₀ second-map second-buffer from n new₀ p₀ map buffer new p =
+    (from ≤ p) × (p ≤ n) × MapRun map₀ (held second-map) from (p - from) map new
+    × BufferRun (λ q. held second-map q && not (held map₀ q)) second-buffer buffer₀ from (p - from) buffer
 
 abbrev μ-loop : tie.MeasureT-loop
-μ-loop map₀ buffer₀ other bytes from n new₀ p₀ map buffer new p = n - p
+μ-loop map₀ buffer₀ second-map second-buffer from n new₀ p₀ map buffer new p = n - p
 
 loop-holds : tie.Need-loop-holds Inv-loop μ-loop
 loop-holds c =
     let x = c .before .before .before .before .args in
     let all : AllBytes (x .map .now) = λ i. c .before .before .before .slice-known .given i .fits in
-    let e = none (x .map .now) (x .other .now) (x .bytes .now) (x .buffer .now) (x .from) all in
+    let e = none (x .map .now) (x .second-map .now) (x .second-buffer .now) (x .buffer .now) (x .from) all in
     (omega arith, omega arith, e .0, e .1)
 
 add-one-requires : tie.Need-add-one-requires Inv-loop μ-loop
@@ -50,18 +50,18 @@ S c = c .before .before .before .before .before
 
 -- the positions so far and this one
 map-joined : (c : tie.After-slice-known4 Inv-loop μ-loop)
-    → MapRun (S (L c) .args .map .now) (held (S (L c) .args .other .now)) (S (L c) .args .from) (L c .loop .p + 1 - S (L c) .args .from)
+    → MapRun (S (L c) .args .map .now) (held (S (L c) .args .second-map .now)) (S (L c) .args .from) (L c .loop .p + 1 - S (L c) .args .from)
     (c .before .before .before .before .add-one .last .0) (L c .loop .new + c .before .before .before .before .add-one .result)
 map-joined c =
     let d = L c in
     let x = S d .args in
-    runs-on (x .map .now) (x .other .now) (x .from) (d .loop .p - x .from) (d .loop .map) (d .loop .new) (d .loop .inv .2)
+    runs-on (x .map .now) (x .second-map .now) (x .from) (d .loop .p - x .from) (d .loop .map) (d .loop .new) (d .loop .inv .2)
     (d .loop .p) 1 (d .loop .p + 1 - x .from) (omega arith) (omega arith) _ _ (c .before .before .before .before .add-one .ensures .0)
 
 add-new : tie.Need-add-new Inv-loop μ-loop
 add-new c =
     let x = S (L c) .args in
-    let most = run-most (x .map .now) (held (x .other .now)) (x .from) _ _ _ (map-joined c) in
+    let most = run-most (x .map .now) (held (x .second-map .now)) (x .from) _ _ _ (map-joined c) in
     omega (arith, most)
 
 add-p : tie.Need-add-p Inv-loop μ-loop
@@ -77,8 +77,8 @@ loop-again c =
       omega arith,
       omega arith,
       map-joined c,
-      copies-on (x .map .now) (x .other .now) (x .from) (d .loop .p - x .from) (d .loop .map) (d .loop .new) (d .loop .inv .2)
-          (d .loop .p) 1 (d .loop .p + 1 - x .from) (omega arith) (omega arith) (x .bytes .now) (x .buffer .now) (d .loop .buffer) _
+      copies-on (x .map .now) (x .second-map .now) (x .from) (d .loop .p - x .from) (d .loop .map) (d .loop .new) (d .loop .inv .2)
+          (d .loop .p) 1 (d .loop .p + 1 - x .from) (omega arith) (omega arith) (x .second-buffer .now) (x .buffer .now) (d .loop .buffer) _
           (d .loop .inv .3) (c .before .before .before .before .add-one .ensures .1),
     )
 

@@ -11,10 +11,10 @@ use Rattle.runs.proofs.joins.agree.Statement.{statement}
 use Rattle.runs.proofs.joins.agree.Tie as tie
 
 abbrev Inv-loop : tie.InvT-loop
-Inv-loop map buffer other bytes n p₀ p = (p ≤ n) × (p % 8 ≡ 0) × ((q : ℕ) → 0 ≤ q → q < p → bothAgree map buffer other bytes q ≡ true)
+Inv-loop map buffer second-map second-buffer n p₀ p = (p ≤ n) × (p % 8 ≡ 0) × ((q : ℕ) → 0 ≤ q → q < p → bothAgree map buffer second-map second-buffer q ≡ true)
 
 abbrev μ-loop : tie.MeasureT-loop
-μ-loop map buffer other bytes n p₀ p = n - p
+μ-loop map buffer second-map second-buffer n p₀ p = n - p
 
 loop-holds : tie.Need-loop-holds Inv-loop μ-loop
 loop-holds c = (omega arith, omega arith, λ q l g. absurd (no-between 0 q l g))
@@ -45,7 +45,7 @@ returns c =
     let d = L (c .before) in
     let s = S d in
     sym
-    (byte-fails (s .args .map .now) (s .args .buffer .now) (s .args .other .now) (s .args .bytes .now) (d .loop .p) (d .loop .p + 8) (s .args .n) (d .loop .inv .1) (omega arith) (omega arith) (omega arith)
+    (byte-fails (s .args .map .now) (s .args .buffer .now) (s .args .second-map .now) (s .args .second-buffer .now) (d .loop .p) (d .loop .p + 8) (s .args .n) (d .loop .inv .1) (omega arith) (omega arith) (omega arith)
     (c .before .agree-byte .result) (c .before .agree-byte .ensures) (c .if1 .taken))
 
 add-p : tie.Need-add-p Inv-loop μ-loop
@@ -60,7 +60,7 @@ loop-again c =
     let s = S d in (
       omega arith,
       omega arith,
-      byte-passes (s .args .map .now) (s .args .buffer .now) (s .args .other .now) (s .args .bytes .now) (d .loop .p) (d .loop .p + 8)
+      byte-passes (s .args .map .now) (s .args .buffer .now) (s .args .second-map .now) (s .args .second-buffer .now) (d .loop .p) (d .loop .p + 8)
           (d .loop .inv .1) (omega arith) (omega arith)
           (c .before .agree-byte .result) (c .before .agree-byte .ensures) (c .if1 .left) (d .loop .inv .2),
     )
@@ -70,7 +70,7 @@ returns-2 c =
     let d = c .before .before in
     let s = S d in
     sym
-    (all-if (bothAgree (s .args .map .now) (s .args .buffer .now) (s .args .other .now) (s .args .bytes .now)) 0 (s .args .n) (λ q l g. d .loop .inv .2 q l (omega arith)))
+    (all-if (bothAgree (s .args .map .now) (s .args .buffer .now) (s .args .second-map .now) (s .args .second-buffer .now)) 0 (s .args .n) (λ q l g. d .loop .inv .2 q l (omega arith)))
 
 shared-slice-read-agree-byte : tie.Need-shared-slice-read-agree-byte Inv-loop μ-loop
 shared-slice-read-agree-byte c = let d = c .before .if2 .left in omega (arith, d)
@@ -85,7 +85,7 @@ returns-3 : tie.Need-returns-3 Inv-loop μ-loop
 returns-3 c =
     let d = c .before .before .before .before .before in
     let s = S d in
-    byte-decides (s .args .map .now) (s .args .buffer .now) (s .args .other .now) (s .args .bytes .now) (d .loop .p) (s .args .n) (d .loop .inv .1)
+    byte-decides (s .args .map .now) (s .args .buffer .now) (s .args .second-map .now) (s .args .second-buffer .now) (d .loop .p) (s .args .n) (d .loop .inv .1)
     (omega arith) (omega arith) (d .loop .inv .2) (c .agree-byte2 .result) (c .agree-byte2 .ensures)
 
 pub agree-spec : {M : Type 1} → statement M
