@@ -5,7 +5,7 @@ ghost use mathlib.Core.List.{_++_};
 ghost use Prim.Native.Nat.{_+_, _/_};
 ghost use lib.ListN.{take, drop};
 ghost use Rattle.octets.specs.Numbers.{bytesOf};
-ghost use Rattle.program_tools.specs.Made.{cutTo, withRun, summedWith, sumFrom, turned, rubbishAt};
+ghost use Rattle.program_tools.specs.Made.{cutTo, withRun, summedWith, sumFrom, turned, andOne, changedFrom, mapBy, bufferBy, rubbishAt};
 
 // Bytes that are made: the first `size` of `bytes`, and what lies behind them.
 pub struct Bytes {
@@ -29,6 +29,14 @@ pub fn with(m: Bytes, at: usize, run: &[u8]) -> Bytes
     let size = m.size;
     octets::put(&mut bytes, at, run);
     Bytes { bytes, size }
+}
+
+// A number of four bytes written over what stands at a place, where there is room for it.
+pub fn with_number(m: Bytes, at: usize, number: u32) -> Bytes
+    ensures { λ r. ⌜ r ≡ withRun m at (bytesOf 4 number) ⌝ }
+{
+    let run = octets::bytes4(number);
+    with(m, at, &run)
 }
 
 // The first n bytes of a space, all of them where there are not so many.
@@ -95,6 +103,49 @@ pub fn summed(total: u32, more: u32) -> u32
     ensures { λ r. ⌜ r ≡ summedWith total more ⌝ }
 {
     (total % 65521 * 31 + more % 65521 + 1) % 65521
+}
+
+// How many bytes differ from those that stood there before.
+pub fn changed(bytes: &[u8], before: &[u8]) -> u32
+    ensures { λ r. ⌜ r ≡ changedFrom 0 0 (now (bytes .entry)) (now (before .entry)) ⌝ }
+{
+    let mut count = 0;
+    let mut i = 0;
+    while i < bytes.len() {
+        count = and_one(count, bytes[i], octets::byte(before, i));
+        i += 1;
+    }
+    count
+}
+
+// A count, with one more where two bytes differ.
+fn and_one(count: u32, a: u8, b: u8) -> u32
+    ensures { λ r. ⌜ r ≡ andOne count a b ⌝ }
+{
+    if a == b {
+        return count;
+    }
+    std::num::wrapping_add_u32(count, 1)
+}
+
+// A map by its first three bytes, as one number, and each other byte.
+pub fn map(bits: u32, rest: u32) -> [u8; 4200]
+    ensures { λ r. ⌜ r ≡ mapBy bits rest ⌝ }
+{
+    let three = octets::bytes3(bits);
+    let mut map = [(rest % 256) as u8; 4200];
+    octets::put(&mut map, 0, &three);
+    map
+}
+
+// A buffer: ABCD at 0, IJ at a place, and A5 elsewhere.
+pub fn buffer(place: u32) -> [u8; 33000]
+    ensures { λ r. ⌜ r ≡ bufferBy place ⌝ }
+{
+    let mut buffer = [0xA5; 33000];
+    octets::put(&mut buffer, 0, b"ABCD");
+    octets::put(&mut buffer, place as usize, b"IJ");
+    buffer
 }
 
 // The byte of rubbish at a place; rubbish of another kind has other bytes.
