@@ -1,16 +1,16 @@
--- `cases::lines::all` is safe and ends: a turn for each letter.
+-- `program_cases_receptions::all` is safe and ends: a turn for each letter.
 -- Assumes what the contract of C's `write` says, as every program does that prints.
 use Prim.Native.Nat.{_-_, _≤_}
 use lib.ListN.{length}
 use borrow.Author.Needs.{needs}
-use Rattle.program_cases.proofs.lines.all.Statement.{statement}
-use Rattle.program_cases.proofs.lines.all.Tie as tie
+use Rattle.program_cases_receptions.proofs.all.Statement.{statement}
+use Rattle.program_cases_receptions.proofs.all.Tie as tie
 
 abbrev Inv-loop : tie.InvT-loop
-Inv-loop lines r₀ i₀ r i = i ≤ length lines
+Inv-loop text reading₀ i₀ reading i = i ≤ length text
 
 abbrev μ-loop : tie.MeasureT-loop
-μ-loop lines r₀ i₀ r i = length lines - i
+μ-loop text reading₀ i₀ reading i = length text - i
 
 nothing-requires : tie.Need-nothing-requires Inv-loop μ-loop
 nothing-requires c κs = search needs

@@ -1,0 +1,56 @@
+// Runs the worked cases of the rules on frames and requests through the station and prints a line for each: its name, the
+// numbers that are expected, and those that the station gave (01, "Both sides of the line": what is not proved is run).
+//
+// The cases are the text on standard input, `stdin` beside `src/`: a line for each, with its name, the numbers
+// of the call and what is expected, which were written from the rules and not worked out by the library.
+mod frames;
+mod reading;
+mod requests;
+mod taking;
+
+use libc::STDIN_FILENO;
+use program_tools::lines;
+use program_tools::lines::Reading;
+
+// How many bytes of text are read.
+const TEXT: usize = 32768;
+
+// The cell with the number of the operation.
+const OPERATION: usize = 30;
+
+fn main() {
+    let mut text = [0; TEXT];
+    let n = io::read_full(STDIN_FILENO, &mut text);
+    lines::end(all(&text[..n]), n == TEXT);
+}
+
+// Reads lines, and runs their cases.
+fn all(text: &[u8]) -> Reading {
+    let mut reading = lines::nothing();
+    let mut i = 0;
+    while i < text.len() {
+        reading = next(text[i], reading);
+        i += 1;
+    }
+    reading
+}
+
+// One letter more, and the case that is due behind it.
+fn next(b: u8, before: Reading) -> Reading {
+    let reading = lines::next(b, before);
+    if reading.due {
+        let cells = reading.cells;
+        return lines::answered(reading, run(&cells));
+    }
+    reading
+}
+
+// What the operation of a case answers: four numbers, the reason, 0 where it accepts, and three more.
+fn run(c: &[u32; 32]) -> [u32; 4] {
+    let operation = c[OPERATION];
+    match operation {
+        1 => taking::taken(c),
+        8 | 9 => requests::run(c, operation),
+        _ => reading::run(c, operation),
+    }
+}
