@@ -1,5 +1,6 @@
-// Runs the worked cases of the rules on receptions and records through the station and prints a line for each: its name,
-// the numbers that are expected, and those that the station gave (01, "Both sides of the line": what is not proved is run).
+// Runs the worked cases of the rules on receptions, and on the records and requests that are made of them, through the
+// station and prints a line for each: its name, the numbers that are expected, and those that the station gave (01, "Both
+// sides of the line": what is not proved is run).
 //
 // The cases are the text on standard input, `stdin` beside `src/`: a line for each, with its name, the numbers
 // of the call and what is expected, which were written from the rules and not worked out by the library.
@@ -8,19 +9,15 @@ mod records;
 mod requests;
 
 use libc::STDIN_FILENO;
+use program_tools::cells::OPERATION;
 use program_tools::lines;
 use program_tools::lines::Reading;
-
-// How many bytes of text are read.
-const TEXT: usize = 32768;
-
-// The cell with the number of the operation.
-const OPERATION: usize = 30;
+use program_tools::lines::SPACE;
 
 fn main() {
-    let mut text = [0; TEXT];
+    let mut text = [0; SPACE];
     let n = io::read_full(STDIN_FILENO, &mut text);
-    lines::end(all(&text[..n]), n == TEXT);
+    lines::end(all(&text[..n]), n == SPACE);
 }
 
 // Reads lines, and runs their cases.

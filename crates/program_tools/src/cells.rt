@@ -81,6 +81,9 @@ pub const Y: usize = 24;
 
 pub const Z: usize = 25;
 
+// The cell of the number of the operation.
+pub const OPERATION: usize = 30;
+
 // The first n bytes of a space, all of them where there are not so many.
 pub fn first(bytes: &[u8], n: u32) -> &[u8]
     ensures { λ r. ⌜ now r ≡ take n (now (bytes .entry)) ⌝ }

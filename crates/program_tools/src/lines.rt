@@ -5,16 +5,17 @@
 //
 // A program hands in one letter after the other by `next`. Where a case is due it runs it, and hands what came of it in by
 // `answered`.
+use super::cells::OPERATION;
 use super::say;
 ghost use mathlib.Core.Path.{_≡_};
-ghost use mathlib.Core.Bool.{Bool, cond};
-ghost use lib.Dec.{eqb};
+ghost use mathlib.Core.Bool.{cond};
 ghost use Rattle.program_tools.specs.Lines.{start, cellOf, digitRead, endedOf, numberOf, nameOf, nextOf, differing, counted, answeredOf};
 
-// A cell that nobody reads; and, behind a semicolon, that of the operation, which is the last that is read.
-const NOWHERE: usize = 31;
+// For how many bytes of lines a program has space.
+pub const SPACE: usize = 32768;
 
-const BEHIND: usize = 30;
+// A cell that nobody reads. Behind a semicolon the cell is that of the operation, which is the last that is read.
+const NOWHERE: usize = 31;
 
 // How many cases there were, and how many differ.
 pub struct Tally {
@@ -62,7 +63,7 @@ pub fn next(b: u8, reading: Reading) -> Reading
     if reading.named {
         return number(b, reading);
     }
-    letter(b, reading.at == BEHIND);
+    letter(b, reading.at == OPERATION);
     name(b, reading)
 }
 
@@ -148,7 +149,7 @@ fn cell(b: u8, at: usize) -> usize
     if b == b' ' {
         return at % 30 + 1;
     }
-    if b == b';' { BEHIND } else { NOWHERE }
+    if b == b';' { OPERATION } else { NOWHERE }
 }
 
 // What came of a case: prints what was expected and what was got, ends the line, and counts the case. The usual numbers

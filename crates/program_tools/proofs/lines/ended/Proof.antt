@@ -1,7 +1,7 @@
 -- `program_tools::lines::ended` meets its contract: the usual numbers and the place are what the calls answer.
 -- Assumes nothing.
-use mathlib.Core.Path.{_≡_, ap₂}
-use mathlib.Core.Bool.{Bool, not, _||_}
+use mathlib.Core.Path.{ap₂}
+use mathlib.Core.Bool.{not, _||_}
 use mathlib.Core.List.{List}
 use Prim.Native.Nat.{ℕ}
 use lib.Dec.{eqb}

@@ -1,6 +1,5 @@
 -- `program_tools::made::and_one` meets its contract: the branch is by what the definition asks.
 -- Assumes nothing.
-use mathlib.Core.Path.{_∙_}
 use borrow.Author.Tests.{eq-eqb, ne-eqb}
 use borrow.Author.Needs.{needs}
 use Rattle.program_tools.proofs.made.and_one.Statement.{statement}
