@@ -62,17 +62,17 @@ fn read(c: &[u32; 32]) -> [u32; 4] {
     reading::three(reason, told[2], told[3], told[4])
 }
 
-// A hole of a request by its index: the reason, then its first position, and how many it has.
+// A hole of a request by its index: the reason, then its start and its length.
 fn hole_read(c: &[u32; 32]) -> [u32; 4] {
     let m = request(c);
     let bytes = m.bytes;
     let mut start = UNTOLD;
-    let mut size = UNTOLD;
+    let mut length = UNTOLD;
     let reason = station::request_boundary::station_hole(
         made::first(&bytes, m.size),
         c[E],
         &mut start,
-        &mut size,
+        &mut length,
     );
-    [reason as u32, start, size, 0]
+    [reason as u32, start, length, 0]
 }

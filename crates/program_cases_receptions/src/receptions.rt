@@ -97,17 +97,17 @@ fn join(
     [reason as u32, new]
 }
 
-// Lists: the reason, then the first position of the hole, and how many it has.
+// Lists: the reason, then start and length of the hole.
 fn listed(c: &[u32; 32]) -> [u32; 4] {
     let map = made::map(c[K], c[R]);
     let mut start = UNTOLD;
-    let mut size = UNTOLD;
+    let mut length = UNTOLD;
     let reason = station::boundary::station_list(
         c[L],
         cells::first(&map, c[M]),
         c[E],
         &mut start,
-        &mut size,
+        &mut length,
     );
-    [reason as u32, start, size, 0]
+    [reason as u32, start, length, 0]
 }
