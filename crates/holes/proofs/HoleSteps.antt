@@ -1,7 +1,7 @@
 -- How the first hole is found: past what is unheld before the place, to the first unheld position.
 -- Assumes nothing.
 use mathlib.Core.Path.{_≡_, refl, sym, ap, _∙_}
-use mathlib.Core.Bool.{Bool, true, false, not, _&&_, true≢false}
+use mathlib.Core.Bool.{Bool, true, false, not, _&&_, _||_, or-false, true≢false}
 use mathlib.Core.Logic.{⊎-elim}
 use mathlib.Core.List.{List}
 use Prim.Native.Nat.{ℕ, zero, suc, _+_, _-_, _≤_, _<_}
@@ -63,9 +63,13 @@ module _ (m : List ℕ) where
           (λ k. before-is r (omega arith) ∙ passed-over (held m) p (n - p) (r - 1) (omega arith) (omega arith))
           (le-or-lt r p)
 
-  -- the two ways that a search for a start goes
+  -- the ways that a search for a start goes: where the position before the place is held, where one of the two is, and where none is
   pub start-here : (p n : ℕ) → heldBefore m p ≡ true → first (λ q. not (held m q)) p (n - p) ≡ holeStart n m p
   start-here p n before = sym (start-is-unheld p (n - p) (λ _. before))
+
+  pub start-at : (p n : ℕ) → (heldBefore m p || held m p) ≡ true → (r : ℕ) → r ≡ first (λ q. not (held m q)) p (n - p) → r ≡ holeStart n m p
+  start-at p n one r e =
+      e ∙ sym (start-is-unheld p (n - p) (λ free. sym (ap (λ (b : Bool). heldBefore m p || b) free ∙ or-false (heldBefore m p)) ∙ one))
 
   pub start-after : (p n past : ℕ) → heldBefore m p ≡ false → past ≡ first (held m) p (n - p)
       → (r : ℕ) → r ≡ first (λ q. not (held m q)) past (n - past) → r ≡ holeStart n m p

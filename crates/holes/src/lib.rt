@@ -20,17 +20,20 @@ pub enum Listed {
 }
 
 // The first position from the place on and below n where a hole starts; where there is none, one that is not
-// below n.
+// below n. At the end of another hole, which is held, it is the first unheld position.
 fn hole_start(map: &[u8], place: u32, n: u32) -> u32
     ensures { λ r. ⌜ r ≡ holeStart n (now (map .entry)) place ⌝ }
 {
     if place == 0 {
         return positions::first_unheld(map, 0, n);
     }
-    if positions::is_held(map, (place - 1) as usize) {
+    if positions::is_held(map, (place - 1) as usize) | positions::is_held(map, place as usize) {
         return positions::first_unheld(map, place, n);
     }
     let past = positions::first_held(map, place, n);
+    if n <= past {
+        return past;
+    }
     positions::first_unheld(map, past, n)
 }
 

@@ -66,13 +66,14 @@ pub(crate) fn first_on(map: &[u8], from: usize, n: usize, side: bool) -> usize
     n
 }
 
-// Where the positions end that are below n and in the map: at n, or behind the last position of the map.
+// Where the positions end that are below n and in the map: at n, or behind the last position of the map. A caller
+// that has tested the same of the map pays nothing for it.
 pub(crate) fn end_below(map: &[u8], n: u32) -> usize
     ensures { λ r. ⌜ r ≡ min n (length (now (map .entry)) * 8) ⌝ }
 {
     let end = n as usize;
-    if map.len() <= end / 8 {
-        return map.len() * 8;
+    if (end + 7) / 8 <= map.len() {
+        return end;
     }
-    end
+    map.len() * 8
 }
