@@ -1,20 +1,36 @@
--- The cases of 01 that addresses and heads decide, and both sides of their limits, by computation.
+-- The cases of 01 and of 02, C-12, that addresses and heads decide, and both sides of their limits, by computation.
 -- Assumes nothing.
 use mathlib.Core.Path.{_≡_, refl}
 use mathlib.Core.List.{List, [], _∷_, _++_}
 use Prim.Native.Nat.{ℕ}
-use lib.ListN.{take, replicate}
+use lib.ListN.{set, take, replicate}
 use Rattle.reason.specs.Answer.{accepted, refused}
 use Rattle.reason.specs.Order.{firstOf}
 use Rattle.octets.specs.Runs.{putIn}
 use Rattle.ax25.specs.declared.Role.the-variants.{Destination, Source}
+use Rattle.ax25.specs.declared.Head.{Head}
 use Rattle.ax25.specs.Address.{isName, isWritable, addressAt, wellFormed, readAddress, writeAddress}
 use Rattle.ax25.specs.Head.{headChecks, headOf, readHead, headBytes, writeHead}
-use Rattle.ax25.specs.Examples.{va3sfl, va3sflBytes, uosat5, uosat5Bytes, lowerBytes, spaces, spacesBytes}
+use Rattle.ax25.specs.Bits.{addressWith, frameWith}
+use Rattle.ax25.specs.Examples.{va3sfl, va3sflBytes, uosat5, uosat5Bytes, qst, qstBytes, lowerBytes, spaces, spacesBytes}
 
 -- a head from UOSAT5-11 to VA3SFL-0
 abbrev pub frame : ℕ → ℕ → List ℕ
 frame control protocol = va3sflBytes ++ uosat5Bytes 0x77 ++ control ∷ protocol ∷ []
+
+-- .. with the two SSID bytes, and what it says with the two bits
+abbrev pub frameOf : ℕ → ℕ → List ℕ
+frameOf to from = set (set (frame 0x03 0xBB) 6 to) 13 from
+
+abbrev pub saying : ℕ → ℕ → Head
+saying to from = record { destination = addressWith to va3sfl; source = addressWith from (uosat5 11) }
+
+-- it is read and written
+abbrev pub BothWays : ℕ → ℕ → ℕ → ℕ → Type 0
+BothWays to from bit bit′ =
+    (readHead 0xBB (frameOf to from) ≡ accepted (saying bit bit′))
+    × (writeHead (replicate 16 0) (addressWith bit va3sfl) (addressWith bit′ (uosat5 11)) 0xBB ≡ accepted (frameOf to from))
+    × (frameWith bit bit′ (frame 0x03 0xBB) ≡ frameOf to from)
 
 pub record Cases : Type 0 where
   pub va3sfl-written : writeAddress Destination (replicate 7 0) 0 va3sfl ≡ accepted va3sflBytes
@@ -23,6 +39,16 @@ pub record Cases : Type 0 where
   pub uosat5-read : readAddress Source (uosat5Bytes 0x77) 0 ≡ accepted (uosat5 11)
   pub six-c-in-a-source : readAddress Source (uosat5Bytes 0x6C) 0 ≡ refused 2
   pub six-c-in-a-destination : readAddress Destination (uosat5Bytes 0x6C) 0 ≡ accepted (uosat5 6)
+  pub qst-written : writeAddress Destination (replicate 7 0) 0 qst ≡ accepted qstBytes
+  pub qst-read : readAddress Destination qstBytes 0 ≡ accepted qst
+  pub f7-written : writeAddress Source (replicate 7 0) 0 (addressWith 1 (uosat5 11)) ≡ accepted (uosat5Bytes 0xF7)
+  pub f7-read : readAddress Source (uosat5Bytes 0xF7) 0 ≡ accepted (addressWith 1 (uosat5 11))
+  pub f7-in-a-destination : readAddress Destination (uosat5Bytes 0xF7) 0 ≡ refused 2
+  pub e-c-in-a-source : readAddress Source (uosat5Bytes 0xEC) 0 ≡ refused 2
+  pub e-c-in-a-destination : readAddress Destination (uosat5Bytes 0xEC) 0 ≡ accepted (addressWith 1 (uosat5 6))
+  pub bit-6-clear : (readAddress Source (uosat5Bytes 0xB7) 0 ≡ refused 2) × (readAddress Source (uosat5Bytes 0x37) 0 ≡ refused 2)
+  pub bit-5-clear : (readAddress Source (uosat5Bytes 0xD7) 0 ≡ refused 2) × (readAddress Source (uosat5Bytes 0x57) 0 ≡ refused 2)
+  pub bit-of-2 : writeAddress Source (replicate 7 0) 0 (addressWith 2 (uosat5 11)) ≡ refused 2
   pub lower-case : readAddress Source lowerBytes 0 ≡ refused 2
   pub spaces-read : readAddress Destination spacesBytes 0 ≡ refused 2
   pub spaces-written : writeAddress Destination (replicate 7 0) 0 spaces ≡ refused 2
@@ -32,6 +58,10 @@ pub record Cases : Type 0 where
   pub six-bytes-written : writeAddress Source (replicate 6 0) 0 (uosat5 11) ≡ refused 12
   pub head-written : writeHead (replicate 16 0) va3sfl (uosat5 11) 0xBB ≡ accepted (frame 0x03 0xBB)
   pub head-read : readHead 0xBB (frame 0x03 0xBB) ≡ accepted (record { destination = va3sfl; source = uosat5 11 })
+  pub neither-bit : BothWays 0x60 0x77 0 0
+  pub destination-bit : BothWays 0xE0 0x77 1 0
+  pub source-bit : BothWays 0x60 0xF7 0 1
+  pub both-bits : BothWays 0xE0 0xF7 1 1
   pub source-malformed : writeHead (replicate 16 0) va3sfl spaces 0xBB ≡ refused 2
   pub target-of-15 : writeHead (replicate 15 0) va3sfl (uosat5 11) 0xBB ≡ refused 12
   pub frame-of-15 : readHead 0xBB (take 15 (frame 0x03 0xBB)) ≡ refused 1
@@ -51,6 +81,16 @@ cases = record {
   uosat5-read = refl;
   six-c-in-a-source = refl;
   six-c-in-a-destination = refl;
+  qst-written = refl;
+  qst-read = refl;
+  f7-written = refl;
+  f7-read = refl;
+  f7-in-a-destination = refl;
+  e-c-in-a-source = refl;
+  e-c-in-a-destination = refl;
+  bit-6-clear = (refl, refl);
+  bit-5-clear = (refl, refl);
+  bit-of-2 = refl;
   lower-case = refl;
   spaces-read = refl;
   spaces-written = refl;
@@ -60,6 +100,10 @@ cases = record {
   six-bytes-written = refl;
   head-written = refl;
   head-read = refl;
+  neither-bit = (refl, refl, refl);
+  destination-bit = (refl, refl, refl);
+  source-bit = (refl, refl, refl);
+  both-bits = (refl, refl, refl);
   source-malformed = refl;
   target-of-15 = refl;
   frame-of-15 = refl;

@@ -1,6 +1,7 @@
 pub mod SpellingLaws
 pub mod HeadLaws
 pub mod Layers
+pub mod BitLaws
 pub mod WriteLaws
 pub mod InOrder
 pub mod RoundTrip

@@ -11,7 +11,7 @@ use lib.Seq.{getD-append-add}
 use borrow.Author.Tests.{le-leb}
 use Rattle.reason.specs.Answer.{accepted}
 use Rattle.reason.proofs.Bools.{and-both}
-use Rattle.octets.specs.Numbers.{byteAt}
+use Rattle.octets.specs.Numbers.{byteAt, AllBytes}
 use Rattle.octets.specs.Runs.{hasRoom, putIn}
 use Rattle.octets.proofs.RunLaws.{put-within, put-length, put-part, put-same, part-is}
 use Rattle.ax25.specs.declared.Address.{Address}
@@ -39,14 +39,14 @@ written-address-is-read role out at a left e =
     ap (λ (l : List ℕ). readAddress role l at) (w .2) ∙ read-of-bytes role a (w .0) (putIn out at (addressBytes role a)) at (put-within out at (addressBytes role a) (w .1))
 
 -- the bytes of an accepted address are what writing it gives, so writing it there again changes nothing
-pub read-address-is-written : (role : Role) (s : List ℕ) (at : ℕ) (a : Address) → readAddress role s at ≡ accepted a
+pub read-address-is-written : (role : Role) (s : List ℕ) (at : ℕ) (a : Address) → AllBytes s → readAddress role s at ≡ accepted a
     → (take 7 (drop at s) ≡ addressBytes role a) × (writeAddress role s at a ≡ accepted s)
-read-address-is-written role s at a e =
+read-address-is-written role s at a all e =
     let k = accepted-address role s at a e in
     let w : wellFormed role s at ≡ true = k .0 in
     let is : addressAt s at ≡ a = sym (k .1) in
     let bytes : take 7 (drop at s) ≡ addressBytes role a = formed-bytes role s at w ∙ ap (addressBytes role) is in
-    let g : isWritable a ≡ true = ap isWritable (sym is) ∙ formed-is-writable role s at w in
+    let g : isWritable a ≡ true = ap isWritable (sym is) ∙ formed-is-writable role s at w all in
     let room : hasRoom s at (addressBytes role a) ≡ true = le-leb (at + 7) (length s) (formed-in-list role s at w) in
     (bytes, address-written role s at a g room ∙ ap accepted (put-same s at (addressBytes role a) bytes))
 
@@ -114,23 +114,23 @@ two-bytes : (frame : List ℕ) (protocol : ℕ) → headLength ≤ length frame 
 two-bytes frame protocol l c p = part-is frame 14 (control ∷ protocol ∷ []) l (at-each frame protocol c p)
 
 -- the first 16 bytes of an accepted frame are what writing its head gives, so writing it there again changes nothing
-pub read-head-is-written : (protocol : ℕ) (frame : List ℕ) (head : Head) → readHead protocol frame ≡ accepted head
+pub read-head-is-written : (protocol : ℕ) (frame : List ℕ) (head : Head) → AllBytes frame → readHead protocol frame ≡ accepted head
     → (take headLength frame ≡ headBytes (head .destination) (head .source) protocol) × (writeHead frame (head .destination) (head .source) protocol ≡ accepted frame)
 unfolding headOf headBytes
-read-head-is-written protocol frame head e =
+read-head-is-written protocol frame head all e =
     let h = head-says protocol frame head e in
     let l = h .long in
     let d = head .destination in
     let s = head .source in
     let d-read : readAddress Destination frame 0 ≡ accepted d = address-accepted Destination frame 0 (h .destination) ∙ ap (λ (x : Head). accepted (x .destination)) (sym (h .is)) in
     let s-read : readAddress Source frame 7 ≡ accepted s = address-accepted Source frame 7 (h .source) ∙ ap (λ (x : Head). accepted (x .source)) (sym (h .is)) in
-    let d-same : putIn frame 0 (addressBytes Destination d) ≡ frame = put-same frame 0 (addressBytes Destination d) (read-address-is-written Destination frame 0 d d-read .0) in
-    let s-same : putIn frame 7 (addressBytes Source s) ≡ frame = put-same frame 7 (addressBytes Source s) (read-address-is-written Source frame 7 s s-read .0) in
+    let d-same : putIn frame 0 (addressBytes Destination d) ≡ frame = put-same frame 0 (addressBytes Destination d) (read-address-is-written Destination frame 0 d all d-read .0) in
+    let s-same : putIn frame 7 (addressBytes Source s) ≡ frame = put-same frame 7 (addressBytes Source s) (read-address-is-written Source frame 7 s all s-read .0) in
     let two-same : putIn frame 14 (control ∷ protocol ∷ []) ≡ frame = put-same frame 14 (control ∷ protocol ∷ []) (two-bytes frame protocol l (h .controlled) (h .of-protocol)) in
     let same : putIn frame 0 (headBytes d s protocol) ≡ frame =
     sym (three-runs frame d s protocol l)
     ∙ ap (λ (x : List ℕ). putIn (putIn x 7 (addressBytes Source s)) 14 (control ∷ protocol ∷ [])) d-same
     ∙ ap (λ (x : List ℕ). putIn x 14 (control ∷ protocol ∷ [])) s-same ∙ two-same in
-    let d-good : isWritable d ≡ true = ap (λ (x : Head). isWritable (x .destination)) (h .is) ∙ formed-is-writable Destination frame 0 (h .destination) in
-    let s-good : isWritable s ≡ true = ap (λ (x : Head). isWritable (x .source)) (h .is) ∙ formed-is-writable Source frame 7 (h .source) in
+    let d-good : isWritable d ≡ true = ap (λ (x : Head). isWritable (x .destination)) (h .is) ∙ formed-is-writable Destination frame 0 (h .destination) all in
+    let s-good : isWritable s ≡ true = ap (λ (x : Head). isWritable (x .source)) (h .is) ∙ formed-is-writable Source frame 7 (h .source) all in
     (ap (take headLength) (sym same) ∙ put-part frame 0 (headBytes d s protocol) l, head-written frame d s protocol (and-both (isWritable d) (isWritable s) d-good s-good) l ∙ ap accepted same)

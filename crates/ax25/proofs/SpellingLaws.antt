@@ -6,7 +6,7 @@ use mathlib.Core.Bool.{Bool, true, false, not, _&&_, and-false, true≢false}
 use mathlib.Core.Logic.{_⊎_, inl, ⊎-elim}
 use mathlib.Core.List.{List, [], _∷_}
 use Prim.Native.Nat.{ℕ, zero, suc, _+_, _*_, _/_, _%_, _≤_, _<_}
-use native.Mathlib.Nat.{add-zero}
+use native.Mathlib.Nat.{add-zero, div-div-eq-div-mul}
 use native.Mathlib.Omega.{arith}
 use lib.Dec.{leb, ltb, eqb}
 use lib.ListN.{length, getD, take, drop, List·getD-eq-default}
@@ -14,12 +14,12 @@ use borrow.Author.Tests.{leb-true, ltb-true, lt-ltb, eqb-true, eq-eqb, not-true,
 use Rattle.reason.specs.Answer.{accepted, refused}
 use Rattle.reason.proofs.Bools.{and-left, and-right, and-both, or-cases, le-or-lt}
 use Rattle.reason.proofs.OrderLaws.{refused-if, refused-only-if, accepted-if, accepted-only-if}
-use Rattle.octets.specs.Numbers.{byteAt}
+use Rattle.octets.specs.Numbers.{byteAt, AllBytes}
 use Rattle.octets.proofs.RunLaws.{part-is}
 use Rattle.ax25.specs.declared.Address.{Address}
 use Rattle.ax25.specs.declared.Role.{Role}
 use Rattle.ax25.specs.declared.Role.the-variants.{Destination, Source}
-use Rattle.ax25.specs.Address.{isCharacter, allSpaces, padded, charactersOf, isName, isWritable, lastBit, addressBytes, addressAt, lowBitsClear, ssidRight, wellFormed, addressReadChecks, readAddress}
+use Rattle.ax25.specs.Address.{isCharacter, allSpaces, padded, charactersOf, isName, isWritable, lastBit, ssidByte, addressBytes, addressAt, lowBitsClear, ssidRight, wellFormed, addressReadChecks, readAddress}
 
 -- every character of a name is below 128
 
@@ -45,13 +45,19 @@ padded-below (c ∷ cs) e (suc k) =
 -- what an address that can be written says
 
 module _ (a : Address) (writable : isWritable a ≡ true) where
-  name-of-writable : isName a ≡ true
+  named-and-numbered : (isName a && ltb (a .number) 16) ≡ true
   unfolding isWritable
-  name-of-writable = and-left (isName a) (ltb (a .number) 16) writable
+  named-and-numbered = and-left (isName a && ltb (a .number) 16) (ltb (a .bit7) 2) writable
+
+  name-of-writable : isName a ≡ true
+  name-of-writable = and-left (isName a) (ltb (a .number) 16) named-and-numbered
 
   pub number-of-writable : a .number < 16
+  number-of-writable = ltb-true (a .number) 16 (and-right (isName a) (ltb (a .number) 16) named-and-numbered)
+
+  pub bit-of-writable : a .bit7 < 2
   unfolding isWritable
-  number-of-writable = ltb-true (a .number) 16 (and-right (isName a) (ltb (a .number) 16) writable)
+  bit-of-writable = ltb-true (a .bit7) 2 (and-right (isName a && ltb (a .number) 16) (ltb (a .bit7) 2) writable)
 
   pub character-of-writable : (k : ℕ) → getD (charactersOf a) k 0 < 128
   unfolding isName
@@ -80,17 +86,17 @@ module _ (role : Role) (a : Address) (writable : isWritable a ≡ true) (s : Lis
   unfolding addressAt
   bytes-spell =
       let l = last-bit-below role in
-      let n : (0x60 + a .number * 2 + lastBit role) / 2 % 16 ≡ a .number = omega (arith, number-of-writable a writable) in
-      simp (first, byte 0 (omega arith), byte 1 (omega arith), byte 2 (omega arith), byte 3 (omega arith), byte 4 (omega arith), byte 5 (omega arith), half, n)
+      let n : ssidByte role a / 2 % 16 ≡ a .number = omega (arith, number-of-writable a writable) in
+      let b : ssidByte role a / 128 ≡ a .bit7 = omega (arith, number-of-writable a writable) in
+      simp (first, byte 0 (omega arith), byte 1 (omega arith), byte 2 (omega arith), byte 3 (omega arith), byte 4 (omega arith), byte 5 (omega arith), half, n, b)
 
   pub bytes-are-formed : wellFormed role s at ≡ true
   unfolding wellFormed
   bytes-are-formed =
       let l = last-bit-below role in
-      let b7 : (0x60 + a .number * 2 + lastBit role) / 128 ≡ 0 = omega (arith, number-of-writable a writable) in
-      let b65 : (0x60 + a .number * 2 + lastBit role) / 32 % 4 ≡ 3 = omega (arith, number-of-writable a writable) in
-      let b0 : (0x60 + a .number * 2 + lastBit role) % 2 ≡ lastBit role = omega arith in
-      simp (bytes-spell, name-of-writable a writable, first, byte 0 (omega arith), byte 1 (omega arith), byte 2 (omega arith), byte 3 (omega arith), byte 4 (omega arith), byte 5 (omega arith), even, b7, b65, b0, eq-eqb (lastBit role) (lastBit role) refl)
+      let b65 : ssidByte role a / 32 % 4 ≡ 3 = omega (arith, number-of-writable a writable) in
+      let b0 : ssidByte role a % 2 ≡ lastBit role = omega arith in
+      simp (bytes-spell, name-of-writable a writable, first, byte 0 (omega arith), byte 1 (omega arith), byte 2 (omega arith), byte 3 (omega arith), byte 4 (omega arith), byte 5 (omega arith), even, b65, b0, eq-eqb (lastBit role) (lastBit role) refl)
 
 -- seven bytes that run past the end are no address
 pub cut-short : (role : Role) (s : List ℕ) (at : ℕ) → length s < at + 7 → wellFormed role s at ≡ false
@@ -104,13 +110,13 @@ cut-short role s at h =
 evens : (n : ℕ) → eqb (n % 2) 0 ≡ true → n ≡ n / 2 * 2
 evens n e = omega (arith, eqb-true (n % 2) 0 e)
 
-ssids : (role : Role) (n : ℕ) → ssidRight role n ≡ true → n ≡ 0x60 + n / 2 % 16 * 2 + lastBit role
+ssids : (role : Role) (n : ℕ) → ssidRight role n ≡ true → n ≡ n / 128 * 128 + 0x60 + n / 2 % 16 * 2 + lastBit role
 ssids role n e =
-    let top = eqb (n / 128) 0 in
     let next = eqb (n / 32 % 4) 3 in
     let last = eqb (n % 2) (lastBit role) in
-    let both : (top && next) ≡ true = and-left (top && next) last e in
-    omega (arith, eqb-true (n / 128) 0 (and-left top next both), eqb-true (n / 32 % 4) 3 (and-right top next both), eqb-true (n % 2) (lastBit role) (and-right (top && next) last e))
+    let top : n / 32 / 4 ≡ n / 128 = div-div-eq-div-mul n 32 4 in
+    let low : n / 2 / 16 ≡ n / 32 = div-div-eq-div-mul n 2 16 in
+    omega (arith, eqb-true (n / 32 % 4) 3 (and-left next last e), eqb-true (n % 2) (lastBit role) (and-right next last e))
 
 six : (b0 b1 b2 b3 b4 b5 : Bool) → (b0 && b1 && b2 && b3 && b4 && b5) ≡ true
     → (b0 ≡ true) × (b1 ≡ true) × (b2 ≡ true) × (b3 ≡ true) × (b4 ≡ true) × (b5 ≡ true)
@@ -140,9 +146,11 @@ module _ (role : Role) (s : List ℕ) (at : ℕ) (formed : wellFormed role s at 
   unfolding wellFormed
   formed-is-name = and-right (lowBitsClear s at && ssidRight role (byteAt s (at + 6))) _ formed
 
-  pub formed-is-writable : isWritable (addressAt s at) ≡ true
+  pub formed-is-writable : AllBytes s → isWritable (addressAt s at) ≡ true
   unfolding isWritable addressAt
-  formed-is-writable = and-both (isName (addressAt s at)) _ formed-is-name (lt-ltb (byteAt s (at + 6) / 2 % 16) 16 (omega arith))
+  formed-is-writable all =
+      let named = and-both (isName (addressAt s at)) _ formed-is-name (lt-ltb (byteAt s (at + 6) / 2 % 16) 16 (omega arith)) in
+      and-both (isName (addressAt s at) && _) _ named (lt-ltb (byteAt s (at + 6) / 128) 2 (omega (arith, all (at + 6))))
 
   -- they are within the list
   pub formed-in-list : at + 7 ≤ length s

@@ -1,4 +1,4 @@
--- The AX.25 address (01, "Frame"): six characters, each shifted left by one, and an SSID byte.
+-- The AX.25 address (01, "Frame", and 02, C-12): six characters, each shifted left by one, and an SSID byte.
 -- Assumes nothing.
 use mathlib.Core.Bool.{Bool, true, not, _&&_, _||_}
 use mathlib.Core.List.{List, [], _∷_}
@@ -36,19 +36,23 @@ charactersOf a = a .c0 ∷ a .c1 ∷ a .c2 ∷ a .c3 ∷ a .c4 ∷ a .c5 ∷ []
 unfoldable pub isName : Address → Bool
 isName a = padded (charactersOf a) && not (allSpaces (charactersOf a))
 
--- an address that can be written: a name, and a number of four bits
+-- an address that can be written: a name, a number of four bits, and one bit
 unfoldable pub isWritable : Address → Bool
-isWritable a = isName a && ltb (a .number) 16
+isWritable a = isName a && ltb (a .number) 16 && ltb (a .bit7) 2
 
 -- bit 0 of the SSID byte is 0 in the destination and 1 in the source
 abbrev pub lastBit : Role → ℕ
 lastBit Destination = 0
 lastBit Source = 1
 
--- the seven bytes: each character shifted left by one; bits 6 and 5 of the SSID byte are 11, bits 4 to 1 the number
+-- the SSID byte: bit 7 is the address's own, bits 6 and 5 are 11, bits 4 to 1 the number, bit 0 the role's
+abbrev pub ssidByte : Role → Address → ℕ
+ssidByte role a = a .bit7 * 128 + 0x60 + a .number * 2 + lastBit role
+
+-- the seven bytes: each character shifted left by one, and the SSID byte
 abbrev pub addressBytes : Role → Address → List ℕ
 addressBytes role a =
-    a .c0 * 2 ∷ a .c1 * 2 ∷ a .c2 * 2 ∷ a .c3 * 2 ∷ a .c4 * 2 ∷ a .c5 * 2 ∷ (0x60 + a .number * 2 + lastBit role) ∷ []
+    a .c0 * 2 ∷ a .c1 * 2 ∷ a .c2 * 2 ∷ a .c3 * 2 ∷ a .c4 * 2 ∷ a .c5 * 2 ∷ ssidByte role a ∷ []
 
 -- what the seven bytes from a place on spell
 unfoldable pub addressAt : List ℕ → ℕ → Address
@@ -60,6 +64,7 @@ addressAt s at = record {
   c4 = byteAt s (at + 4) / 2;
   c5 = byteAt s (at + 5) / 2;
   number = byteAt s (at + 6) / 2 % 16;
+  bit7 = byteAt s (at + 6) / 128;
 }
 
 -- each character's low bit is 0
@@ -72,9 +77,9 @@ lowBitsClear s at =
     && eqb (byteAt s (at + 4) % 2) 0
     && eqb (byteAt s (at + 5) % 2) 0
 
--- an SSID byte: bit 7 is 0, bits 6 and 5 are 11, bit 0 is the role's
+-- an SSID byte: bit 7 is free, bits 6 and 5 are 11, bit 0 is the role's
 abbrev pub ssidRight : Role → ℕ → Bool
-ssidRight role b = eqb (b / 128) 0 && eqb (b / 32 % 4) 3 && eqb (b % 2) (lastBit role)
+ssidRight role b = eqb (b / 32 % 4) 3 && eqb (b % 2) (lastBit role)
 
 -- the seven bytes from a place on are an address; where the list ends before the seventh, its SSID byte reads as 0 and is
 -- not right

@@ -24,7 +24,8 @@ pub const FILE_PROTOCOL: u8 = 0xBB;
 
 pub const DIRECTORY_PROTOCOL: u8 = 0xBD;
 
-// A station: six characters, padded at the end with spaces, and the number of its SSID.
+// An address: a station's six characters, padded at the end with spaces, the number of its SSID, and bit 7 of the SSID byte,
+// 0 or 1, which is told and written as it is and decides nothing.
 pub struct Address {
     pub c0: u8,
     pub c1: u8,
@@ -33,6 +34,7 @@ pub struct Address {
     pub c4: u8,
     pub c5: u8,
     pub number: u8,
+    pub bit7: u8,
 }
 
 // Which of a frame's two addresses it is: bit 0 of the SSID byte tells them apart.
@@ -41,7 +43,7 @@ pub enum Role {
     Source,
 }
 
-// What reading an address finds: the station, or the number of the reason.
+// What reading an address finds: the address, or the number of the reason.
 pub enum AddressRead {
     Accepted(Address),
     Refused(u8),
@@ -60,11 +62,11 @@ pub enum HeadRead {
 }
 
 // Whether an address can be written: characters A–Z and 0–9, spaces after the last of them only, not
-// all spaces, and a number of at most 15.
+// all spaces, a number of at most 15, and a bit 7 of 0 or 1.
 pub fn writable(a: Address) -> bool
     ensures { λ r. ⌜ r ≡ isWritable a ⌝ }
 {
-    spelling::is_name(a) & (a.number < 16)
+    spelling::is_name(a) & (a.number < 16) & (a.bit7 < 2)
 }
 
 // The address in the seven bytes of s from a place on, or reason 2. Bytes beyond the end of s are

@@ -65,7 +65,7 @@ pub(crate) fn read(s: &[u8], at: usize, role: Role) -> AddressRead
         & (b3 % 2 == 0)
         & (b4 % 2 == 0)
         & (b5 % 2 == 0);
-    let right = (ssid / 128 == 0) & (ssid / 32 % 4 == 3) & (ssid % 2 == last);
+    let right = (ssid / 32 % 4 == 3) & (ssid % 2 == last);
     let a = Address {
         c0: b0 / 2,
         c1: b1 / 2,
@@ -74,6 +74,7 @@ pub(crate) fn read(s: &[u8], at: usize, role: Role) -> AddressRead
         c4: b4 / 2,
         c5: b5 / 2,
         number: ssid / 2 % 16,
+        bit7: ssid / 128,
     };
     if even & right & is_name(a) {
         AddressRead::Accepted(a)
@@ -95,6 +96,6 @@ pub(crate) fn bytes_of(a: Address, role: Role) -> [u8; 7]
         a.c3 * 2,
         a.c4 * 2,
         a.c5 * 2,
-        0x60 + a.number * 2 + last,
+        a.bit7 * 128 + 0x60 + a.number * 2 + last,
     ]
 }

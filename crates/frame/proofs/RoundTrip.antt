@@ -155,7 +155,7 @@ module _ (frame : List ℕ) (p : Piece) (a : AllBytes frame) (e : readPiece fram
   -- an accepted frame of bytes is the frame of its fields and of the bytes that it hands out: so it has one meaning
   pub accepted-piece-is-made : pieceFrame p (pieceBytes frame) ≡ frame
   accepted-piece-is-made =
-      ap₂ (λ (h s : List ℕ). h ++ s) (sym (read-head-is-written fileProtocol frame (p .head) (Said .head-read) .0)) information-is ∙ take-append-drop 16 frame
+      ap₂ (λ (h s : List ℕ). h ++ s) (sym (read-head-is-written fileProtocol frame (p .head) a (Said .head-read) .0)) information-is ∙ take-append-drop 16 frame
 
   -- .. and they are a piece that can be made: the accepted frames are exactly those that a satellite makes
   pub accepted-piece-can-be-made : MakeablePiece p (pieceBytes frame)
@@ -163,8 +163,8 @@ module _ (frame : List ℕ) (p : Piece) (a : AllBytes frame) (e : readPiece fram
   accepted-piece-can-be-made =
       let head = Said .head in
       record {
-        destination = ap (λ (h : Head). isWritable (h .destination)) (head .is) ∙ formed-is-writable Destination frame 0 (head .destination);
-        source = ap (λ (h : Head). isWritable (h .source)) (head .is) ∙ formed-is-writable Source frame 7 (head .source);
+        destination = ap (λ (h : Head). isWritable (h .destination)) (head .is) ∙ formed-is-writable Destination frame 0 (head .destination) a;
+        source = ap (λ (h : Head). isWritable (h .source)) (head .is) ∙ formed-is-writable Source frame 7 (head .source) a;
         number = omega (arith, Said .number, number-below 4 frame 17 a);
         kind = omega (arith, Said .kind, a 21);
         offset = omega (arith, Said .offset, number-below 3 frame 22 a);

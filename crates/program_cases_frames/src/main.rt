@@ -47,7 +47,7 @@ fn run(c: &[u32; 32]) -> [u32; 4] {
     let operation = c[OPERATION];
     match operation {
         1 => taking::taken(c),
-        8 | 9 => requests::run(c, operation),
+        8 | 9 | 14 => requests::run(c, operation),
         _ => reading::run(c, operation),
     }
 }

@@ -14,8 +14,7 @@ pub(crate) fn run(c: &[u32; 32], operation: u32) -> [u32; 4] {
     }
 }
 
-// A frame read as a piece: the reason, then offset, how many bytes, and the numbers of both stations, of which the
-// destination's counts in hundreds.
+// A frame read as a piece: the reason, then offset, how many bytes, and the numbers and bits of both stations.
 fn piece_read(c: &[u32; 32]) -> [u32; 4] {
     let m = frames::piece(c);
     let bytes = m.bytes;
@@ -29,13 +28,17 @@ fn piece_read(c: &[u32; 32]) -> [u32; 4] {
     ]
 }
 
-// The numbers of both stations in one: the seventh bytes of both addresses, that of the destination in hundreds.
-fn stations(to: u64, from: u64) -> u32 {
-    ((to / 0x1000000000000 % 256) * 100 + from / 0x1000000000000 % 256) as u32
+// The numbers and the bits of both stations in one: the seventh bytes of both addresses, that of the destination in hundreds, and
+// in tens of thousands the eighth of the source, in hundreds of thousands that of the destination.
+pub(crate) fn stations(to: u64, from: u64) -> u32 {
+    let numbers = to / 0x1000000000000 % 256 * 100 + from / 0x1000000000000 % 256;
+    let bits = to / 0x100000000000000 * 10 + from / 0x100000000000000;
+    (bits * 10000 + numbers) as u32
 }
 
-// A frame read as a directory entry: the reason, then flags, number, and how many bytes its header has; or the header of
-// such a frame: the reason, then the length of the file, the body offset, and 1 where item 12 is present.
+// A frame read as a directory entry: the reason, then flags, number, and how many bytes its header has, or the numbers and bits of
+// both stations for the flags; or the header of such a frame: the reason, then the length of the file, the body offset, and 1
+// where item 12 is present.
 fn entry_read(c: &[u32; 32], operation: u32) -> [u32; 4] {
     let m = frames::entry(c);
     let bytes = m.bytes;
@@ -53,6 +56,9 @@ fn entry_read(c: &[u32; 32], operation: u32) -> [u32; 4] {
 fn chosen(operation: u32, reason: u8, told: [u64; 9], values: [u64; 12]) -> [u32; 4] {
     if operation == 11 {
         return three(reason, told[2], told[3], told[8]);
+    }
+    if operation == 13 {
+        return three(reason, stations(told[0], told[1]) as u64, told[3], told[8]);
     }
     three(reason, values[2], values[9], values[10])
 }

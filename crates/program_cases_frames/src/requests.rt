@@ -45,13 +45,14 @@ fn with_holes(m: Bytes) -> Bytes {
 // What the operation of a case answers.
 pub(crate) fn run(c: &[u32; 32], operation: u32) -> [u32; 4] {
     match operation {
-        8 => read(c),
-        _ => hole_read(c),
+        9 => hole_read(c),
+        _ => read(c, operation),
     }
 }
 
-// A frame read as a request: the reason, then flags, number and how many holes.
-fn read(c: &[u32; 32]) -> [u32; 4] {
+// A frame read as a request: the reason, then flags, number and how many holes, or the numbers and bits of both stations for
+// the flags.
+fn read(c: &[u32; 32], operation: u32) -> [u32; 4] {
     let m = request(c);
     let bytes = m.bytes;
     let mut told: [u64; 5] = [UNTOLD as u64; 5];
@@ -59,6 +60,10 @@ fn read(c: &[u32; 32]) -> [u32; 4] {
         made::first(&bytes, m.size),
         &mut told,
     );
+    if operation == 14 {
+        let stations = reading::stations(told[0], told[1]) as u64;
+        return reading::three(reason, stations, told[3], told[4]);
+    }
     reading::three(reason, told[2], told[3], told[4])
 }
 

@@ -13,17 +13,17 @@ use program_tools::cells::T;
 use program_tools::cells::UNTOLD;
 use program_tools::made;
 
-// To whom a request goes, as a number: VA3SFL, of which the first character can be another, and a number.
+// To whom a request goes, as a number: VA3SFL, of which the first character can be another, a number, and 256 times bit 7.
 fn to(c: &[u32; 32]) -> u64 {
     let characters: u64 = 0x4C4653334100;
-    let ssid = (c[H] % 512) as u64;
+    let ssid = (c[H] % 1024) as u64;
     characters + ((c[A] % 256) as u64) + ssid * 0x1000000000000
 }
 
-// From whom it comes: UOSAT5 and a number.
+// From whom it comes: UOSAT5, a number, and 256 times bit 7.
 fn from(c: &[u32; 32]) -> u64 {
     let characters: u64 = 0x355441534F55;
-    let ssid = (c[S] % 512) as u64;
+    let ssid = (c[S] % 1024) as u64;
     characters + ssid * 0x1000000000000
 }
 
@@ -57,7 +57,8 @@ fn written(c: &[u32; 32]) -> [u32; 4] {
     [reason as u32, count, end, made::changed(&target, &before)]
 }
 
-// Writes a request for the start: the reason, then how many bytes of the target changed, and the file number in it.
+// Writes a request for the start: the reason, then how many bytes of the target changed, and in it the file number and
+// both SSID bytes, that of the destination in thousands.
 fn started(c: &[u32; 32]) -> [u32; 4] {
     let before = [0xEE; 300];
     let mut target = before;
@@ -71,6 +72,11 @@ fn started(c: &[u32; 32]) -> [u32; 4] {
         reason as u32,
         made::changed(&target, &before),
         octets::number4(&target, 17),
-        0,
+        thousands(octets::byte(&target, 6), octets::byte(&target, 13)),
     ]
+}
+
+// Two bytes in one number, the first in thousands.
+fn thousands(first: u8, second: u8) -> u32 {
+    first as u32 * 1000 + second as u32
 }

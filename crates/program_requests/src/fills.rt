@@ -41,24 +41,26 @@ fn length(length: u32, size: u32) {
     filled(ask);
 }
 
-// The lines of a case: each of the 10 faults with each other, and none; s where a request for the start has
+// The lines of a case: each of the 12 faults with each other, and none; s where a request for the start has
 // them too. Of a length that would be 0 and 32,769 there is none.
 pub(crate) fn fault(c: usize) {
-    let pairs = b"ssssxxxxxs.\
-        .sssxxxxxs.\
-        ..ssxxxxxs.\
-        ...sxxxxxs.\
-        ....x.xxxx.\
-        .....xxxxx.\
-        ......xxxx.\
-        .......xxx.\
-        ........xx.\
-        .........s.\
-        ..........s";
+    let pairs = b"ssssssxxxxxs.\
+        .sssssxxxxxs.\
+        ..ssssxxxxxs.\
+        ...sssxxxxxs.\
+        ....ssxxxxxs.\
+        .....sxxxxxs.\
+        ......x.xxxx.\
+        .......xxxxx.\
+        ........xxxx.\
+        .........xxx.\
+        ..........xx.\
+        ...........s.\
+        ............s";
     let kind = octets::byte(pairs, c);
     let f = Faults {
-        first: c / 11,
-        second: c % 11,
+        first: c / 13,
+        second: c % 13,
     };
     if kind != b'.' {
         names(f);
@@ -73,7 +75,8 @@ pub(crate) fn fault(c: usize) {
 // The names of the faults.
 fn names(f: Faults) {
     faults::names(
-        b"destination in lower case/destination number 16/space inside the source/source number 16/\
+        b"destination in lower case/destination number 16/destination bit 2/\
+        space inside the source/source number 16/source bit 2/\
         length 0/length 32769/short map/complete map/place beyond/target short by one/no fault/",
         f,
     );

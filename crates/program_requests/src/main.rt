@@ -33,7 +33,7 @@ fn main() {
     reads::back();
     each(PLACES, 24);
     fills::lengths();
-    each(FAULTS, 121);
+    each(FAULTS, 169);
     each(SIZES, 288);
     each(VALUES, 1024);
     each(DAMAGES, 225);

@@ -2,7 +2,9 @@
 // hexadecimal and read back.
 use crate::bases;
 use crate::texts;
+use crate::writers;
 use ax25::Address;
+use program_tools::faults::Faults;
 use program_tools::made;
 use program_tools::made::Bytes;
 use program_tools::say;
@@ -22,6 +24,21 @@ pub(crate) fn back() {
     full(32768, 0x7F7F7F, 32760, 28);
     texts::text(texts::STARTS);
     shown(bases::start_frame());
+    texts::text(texts::BITS);
+    bits(writers::TO_SET, writers::NO_FAULT);
+    bits(writers::NO_FAULT, writers::FROM_SET);
+    bits(writers::TO_SET, writers::FROM_SET);
+}
+
+// The lines of the worked request and of one for the start, with bits that the caller chooses.
+fn bits(first: usize, second: usize) {
+    let ask = bases::with(Faults { first, second }, bases::right(20, bases::WORKED, 0));
+    let asked = bases::fill(ask, [0xA5; 640]);
+    let bytes = asked.bytes;
+    shown(Bytes { bytes, size: 33 });
+    let started = bases::start(ask, [0xA5; 640]);
+    let bytes = started.bytes;
+    shown(Bytes { bytes, size: 23 });
 }
 
 // The lines of a request for holes, of which the first bytes of the target are shown.
@@ -82,6 +99,9 @@ fn station(a: Address) {
     let name = [a.c0, a.c1, a.c2, a.c3, a.c4, a.c5];
     say::text(&name);
     texts::line(texts::SSID, a.number as u32, 0, 0);
+    if a.bit7 != 0 {
+        texts::line(texts::BIT, a.bit7 as u32, 0, 0);
+    }
 }
 
 // The holes of a request, and the end of the line.

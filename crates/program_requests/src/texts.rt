@@ -73,6 +73,10 @@ pub(crate) const ODD_FRAME: usize = 34;
 
 pub(crate) const PICK: usize = 35;
 
+pub(crate) const BITS: usize = 36;
+
+pub(crate) const BIT: usize = 37;
+
 // A text of the list; each # in it stands for the next of three numbers.
 pub(crate) fn line(which: usize, a: u32, b: u32, c: u32) {
     say::line(
@@ -86,7 +90,8 @@ pub(crate) fn line(which: usize, a: u32, b: u32, c: u32) {
         the same for the start/: written, target #\n/: refused #\n/\
         , start, file #, holes #/, list, file #, holes #/: / from /-#/ (#, #)/\
         By size\n/By the value of byte #\n/#:/ #/ #\n/hole (#, #) at byte #/\
-        Holes by their index\n/2 holes/49 holes/start/34 bytes/, #: (#, #)/",
+        Holes by their index\n/2 holes/49 holes/start/34 bytes/, #: (#, #)/\
+        Bit 7 of the destination, of the source, of both\n/ (bit 7: #)/",
         which,
         a,
         b,

@@ -8,7 +8,7 @@
 //   y, f            bits that are turned over, and in which byte: of a piece's data, of the second buffer,
 //                   of a record
 //   a, h, s         first byte of a frame's destination, its SSID byte, that of the source; where a request is
-//                   written, the first character and the two numbers
+//                   written, the first character and the two numbers, each with 256 times its bit 7
 //   c, p, g, i      control, protocol, flags and file number of a frame
 //   o, d            offset and number of data bytes of a piece
 //   x               bits that are turned over in the check; from 65,536 on the check itself

@@ -6,7 +6,7 @@ use mathlib.Core.Logic.{_⊎_, inl, inr, ⊎-elim}
 use mathlib.Core.List.{List, [], _∷_, _++_}
 use Prim.Native.Nat.{ℕ}
 use native.Mathlib.Omega.{arith}
-use Rattle.reason.specs.Answer.{Answer, accepted, refused}
+use Rattle.reason.specs.Answer.{Answer, accepted, refused, telling}
 use Rattle.reason.specs.Order.{Check, check, firstOf, First, NoneHolds, Exactly}
 
 -- accepted and refused are never the same answer
@@ -110,3 +110,10 @@ unfolding firstOf
 cut-off [] n ds es a b e = rw e
 cut-off (check true m ∷ cs) n ds es a b e = refl
 cut-off (check false m ∷ cs) n ds es a b e = cut-off cs n ds es a b e
+
+-- f of the value: the same answer with f of its values
+pub first-telling : {A B : Type 0} (f : A → B) (cs : List Check) (a : A) → firstOf cs (f a) ≡ telling f (firstOf cs a)
+unfolding firstOf
+first-telling f [] a = refl
+first-telling f (check true m ∷ cs) a = refl
+first-telling f (check false m ∷ cs) a = first-telling f cs a

@@ -221,7 +221,7 @@ module _ (frame : List ℕ) (bytes : AllBytes frame) (r : Request) (read : readR
   unfolding requestFrame requestFields
   accepted-request-is-made =
       ap₂ (λ (x : Request) (holes : List Hole). headBytes (x .head .destination) (x .head .source) fileProtocol ++ information (x .asks) (x .number) holes) (said frame r read) (holes-are-in frame r read)
-      ∙ ap₂ (λ (x y : List ℕ). x ++ y) (sym (read-head-is-written fileProtocol frame (headOf frame) (layers frame r read .0) .0)) information-is
+      ∙ ap₂ (λ (x y : List ℕ). x ++ y) (sym (read-head-is-written fileProtocol frame (headOf frame) bytes (layers frame r read .0) .0)) information-is
       ∙ take-append-drop headLength frame
 
   -- .. and these are a request that can be made.
@@ -230,8 +230,8 @@ module _ (frame : List ℕ) (bytes : AllBytes frame) (r : Request) (read : readR
   accepted-request-can-be-made =
       let h = head-says fileProtocol frame (headOf frame) (layers frame r read .0) in
       rw ((said frame r read), (holes-are-in frame r read)) (record {
-        destination = formed-is-writable Destination frame 0 (h .destination);
-        source = formed-is-writable Source frame 7 (h .source);
+        destination = formed-is-writable Destination frame 0 (h .destination) bytes;
+        source = formed-is-writable Source frame 7 (h .source) bytes;
         number-fits = number-below 4 S 1 byte-of;
         as-many = ap (holesOfKind (asksBy (byteAt S 0))) (values-long (holeIn S) 0 (countIn S)) ∙ count-exact S (long frame r read) (counted frame r read) .1;
         right = right frame r read;

@@ -4,7 +4,7 @@ use mathlib.Core.Path.{_≡_, refl, sym, ap, _∙_}
 use mathlib.Core.Bool.{true, false, and-false}
 use mathlib.Core.Logic.{_⊎_, inl, inr}
 use mathlib.Core.List.{List, [], _∷_}
-use Prim.Native.Nat.{ℕ, zero, suc, _+_, _-_, _^_, _≤_}
+use Prim.Native.Nat.{ℕ, zero, suc, _+_, _-_, _*_, _/_, _^_, _≤_}
 use native.Mathlib.Omega.{arith}
 use lib.ListN.{length, getD, take, drop}
 use lib.Seq.{drop-drop}
@@ -111,10 +111,10 @@ counted-after : (number l : ℕ) (lent left : out.Counted) (o : Offer) (x : Answ
 counted-after number l lent left o (accepted n) e = ap (out.lentTo number l) e
 counted-after number l lent left o (refused n) e = ap (out.lentTo number l) e
 
--- no address has the number 255
-too-large : (n : ℕ) → 256 ^ 7 ≤ n → isWritable (addressOf n) ≡ false
+-- its eighth byte is bit 7, and then above 1
+too-large : (n : ℕ) → 2 * 256 ^ 7 ≤ n → isWritable (addressOf n) ≡ false
 unfolding isWritable addressOf
-too-large n h = simp (le-ltb n (256 ^ 7) h, and-false)
+too-large n h = let top : 2 ≤ n / 256 ^ 7 = omega arith in simp (le-ltb (n / 256 ^ 7) 2 top, and-false)
 
 pub at-boundary : AtBoundary
 unfolding headChecks pieceChecks entryChecks requestChecks

@@ -33,7 +33,8 @@ unfolding firstOf putIn withBit withBits messageBits remainderOf checkRight figu
 boundary-cases = record {
   va3sfl-as-number = (refl, refl);
   uosat5-as-number = (refl, refl);
-  eight-bytes = refl;
+  bit-as-number = (refl, refl);
+  bit-above-1 = refl;
   open-out = record { returns = refl; leaves = refl };
   take-out = record { returns = refl; leaves = refl };
   take-refused = record { returns = refl; leaves = refl };

@@ -30,6 +30,7 @@ use Rattle.ax25.proofs.RoundTrip.{written-address-is-read, read-address-is-writ
 use Rattle.record.proofs.Says.{record-says}
 use Rattle.record.proofs.RoundTrip as saved
 use Rattle.station.specs.Demand2.{Demand2}
+use Rattle.station.proofs.Bits.{only-the-bits}
 
 -- a piece's flags are 02, a request's 10 or 11
 flags-differ : (asks : Asks) → flagsOf asks ≡ 2 → ⊥
@@ -62,6 +63,7 @@ demand-2 = record {
   not-piece-and-entry = not-piece-and-entry;
   not-piece-and-request = not-piece-and-request;
   not-entry-and-request = not-entry-and-request;
+  only-the-bits = only-the-bits;
   hole-says = λ l map place hole e. (let first = hole-first l map place hole e in (hole-is l map place hole e, first .0, first .1));
   fifteen-says = none-only-if;
   request-says = request-says;

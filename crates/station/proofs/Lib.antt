@@ -1,5 +1,6 @@
 pub mod Cases
 pub mod BoundaryCases
+pub mod BitCases
 pub mod MoreCases
 pub mod AddressLaws
 pub mod ExportLaws
@@ -12,5 +13,6 @@ pub mod OnlyOne
 pub mod Orders
 pub mod Demand1
 pub mod AtBoundary
+pub mod Bits
 pub mod Demand2
 pub mod Demand3

@@ -4,7 +4,7 @@
 use mathlib.Core.Path.{_≡_}
 use mathlib.Core.Bool.{true, false}
 use mathlib.Core.List.{List}
-use Prim.Native.Nat.{ℕ, suc, _^_, _≤_}
+use Prim.Native.Nat.{ℕ, suc, _*_, _^_, _≤_}
 use lib.ListN.{getD, take, drop}
 use Rattle.reason.specs.Order.{Check, First, NoneHolds}
 use Rattle.ax25.specs.declared.Address.{Address}
@@ -78,6 +78,6 @@ pub record AtBoundary : Type 0 where
       → take (getD left 6 0) (drop (getD left 5 0) frame) ≡ pieceBytes frame
   pub header-stands-there : (frame : List ℕ) (lent left : EntryTold) (r : ℕ) → EntryOut frame lent r left → r ≡ 0
       → take (getD (left .told) 8 0) (drop (getD (left .told) 7 0) frame) ≡ headerBytes frame
-  -- an address that can be written is told back by its number; a number of more than seven bytes tells none
+  -- an address that can be written is told back by its number; a number whose eighth byte, the bit, is above 1 tells none that can be written
   pub address-told-back : (a : Address) → isWritable a ≡ true → addressOf (addressNumber a) ≡ a
-  pub too-large-a-number : (n : ℕ) → 256 ^ 7 ≤ n → isWritable (addressOf n) ≡ false
+  pub too-large-a-number : (n : ℕ) → 2 * 256 ^ 7 ≤ n → isWritable (addressOf n) ≡ false

@@ -4,13 +4,14 @@
 use mathlib.Core.Path.{_≡_}
 use mathlib.Core.Bool.{false}
 use mathlib.Core.List.{List, [], _∷_, _++_}
-use Prim.Native.Nat.{ℕ, _+_, _^_}
+use Prim.Native.Nat.{ℕ, _+_, _*_, _^_}
 use lib.ListN.{set, drop, replicate}
 use Rattle.remainder.specs.Check.{withCheck}
 use Rattle.remainder.specs.Figure.{figure32}
 use Rattle.ax25.specs.declared.Head.{Head}
 use Rattle.ax25.specs.Address.{isWritable}
 use Rattle.ax25.specs.Head.{headBytes}
+use Rattle.ax25.specs.Bits.{addressWith}
 use Rattle.ax25.specs.Examples.{va3sfl, uosat5}
 use Rattle.header.specs.declared.Upload.the-variants.{Absent}
 use Rattle.frame.specs.Making.{pieceFrame}
@@ -28,6 +29,10 @@ va3sflNumber = 0x004C4653334156
 
 abbrev pub uosat5Number : ℕ
 uosat5Number = 0x0B355441534F55
+
+-- .. and with an eighth byte, which is bit 7
+abbrev pub eighth : ℕ → ℕ → ℕ
+eighth bit n = bit * 256 ^ 7 + n
 
 -- a piece of three bytes whose fields all differ
 abbrev pub threeBytes : List ℕ
@@ -86,7 +91,8 @@ sample =
 pub record BoundaryCases : Type 0 where
   pub va3sfl-as-number : (addressNumber va3sfl ≡ va3sflNumber) × (addressOf va3sflNumber ≡ va3sfl)
   pub uosat5-as-number : (addressNumber (uosat5 11) ≡ uosat5Number) × (addressOf uosat5Number ≡ uosat5 11)
-  pub eight-bytes : isWritable (addressOf (256 ^ 7 + uosat5Number)) ≡ false
+  pub bit-as-number : (addressNumber (addressWith 1 (uosat5 11)) ≡ eighth 1 uosat5Number) × (addressOf (eighth 1 uosat5Number) ≡ addressWith 1 (uosat5 11))
+  pub bit-above-1 : isWritable (addressOf (eighth 2 uosat5Number)) ≡ false
   pub open-out : OpensOut 8 (record { map = replicate 2 9; buffer = replicate 9 9 }) 0 (record { map = 0 ∷ 9 ∷ []; buffer = replicate 8 0 ++ 9 ∷ [] })
   pub take-out : TakesOut 7 20 front (counted 9 (replicate 4 0) (replicate 21 9)) 0
       (counted 4 (0x0F ∷ 0 ∷ 0 ∷ 0 ∷ []) (0x41 ∷ 0x42 ∷ 0x43 ∷ 0x44 ∷ replicate 17 9))
@@ -119,7 +125,7 @@ pub record BoundaryCases : Type 0 where
   pub no-upload : (uploadedOf Absent ≡ 0) × (uploadOf Absent ≡ 0)
   pub write-request-out : FillsOut (asked uosat5Number) 0 requestLent 0
       (record { count = 1; end = 20; target = askedHead ++ 0x11 ∷ 0x07 ∷ 0x00 ∷ 0x00 ∷ 0x00 ∷ 0xF4 ∷ 0x00 ∷ 0x04 ∷ 0x00 ∷ 0x00 ∷ 0x10 ∷ 0x00 ∷ 9 ∷ 9 ∷ [] })
-  pub write-request-refused : FillsOut (asked (256 ^ 7 + uosat5Number)) 0 requestLent 2 requestLent
+  pub write-request-refused : FillsOut (asked (eighth 2 uosat5Number)) 0 requestLent 2 requestLent
   pub write-start-out : StartsOut (headTold uosat5Number va3sflNumber) 7 (replicate 24 9) 0
       (askedHead ++ 0x10 ∷ 0x07 ∷ 0x00 ∷ 0x00 ∷ 0x00 ∷ 0xF4 ∷ 0x00 ∷ 9 ∷ [])
   pub read-request-out : RequestOut twoHoles (replicate 5 9) 0 (uosat5Number ∷ va3sflNumber ∷ 0x11 ∷ 7 ∷ 2 ∷ [])

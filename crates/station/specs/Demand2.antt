@@ -46,6 +46,7 @@ use Rattle.record.specs.Reading.{numberIn, lengthIn, mapIn, bufferIn, isRecord,
 use Rattle.record.specs.Says.{RecordSays}
 use Rattle.record.specs.Loading.{loading, loaded}
 use Rattle.record.specs.GivenBack.{GivesBack}
+use Rattle.station.specs.Bits.{OnlyTheBits}
 
 -- a station that can send requests: both addresses can be written, the file's number has four bytes, the target has room for the frame of
 -- each request that is written (of a run the first is the longest), the length is in range and the map long enough
@@ -61,7 +62,7 @@ pub record Demand2 : Type 0 where
   -- ---- Addresses: what is written is read, and what is read is what writing gives.
   pub address-is-read : (role : Role) (out : List ℕ) (at : ℕ) (a : Address) (left : List ℕ) → writeAddress role out at a ≡ accepted left
       → readAddress role left at ≡ accepted a
-  pub address-is-written : (role : Role) (s : List ℕ) (at : ℕ) (a : Address) → readAddress role s at ≡ accepted a
+  pub address-is-written : (role : Role) (s : List ℕ) (at : ℕ) (a : Address) → AllBytes s → readAddress role s at ≡ accepted a
       → (take 7 (drop at s) ≡ addressBytes role a) × (writeAddress role s at a ≡ accepted s)
   -- ---- Pieces: an accepted frame says its bytes at their places; a piece as a satellite makes it is read as that piece, and the bytes
   -- handed out are its own; and every accepted frame is the one that its fields and bytes make, so that it has one meaning, and these can
@@ -83,6 +84,8 @@ pub record Demand2 : Type 0 where
   pub not-piece-and-entry : (frame : List ℕ) (p : Piece) (e : Entry) → readPiece frame ≡ accepted p → readEntry frame ≡ accepted e → ⊥
   pub not-piece-and-request : (frame : List ℕ) (p : Piece) (r : Request) → readPiece frame ≡ accepted p → readRequest frame ≡ accepted r → ⊥
   pub not-entry-and-request : (frame : List ℕ) (e : Entry) (r : Request) → readEntry frame ≡ accepted e → readRequest frame ≡ accepted r → ⊥
+  -- ---- Bit 7 of the two SSID bytes is told and written, and decides nothing (02, C-12).
+  pub only-the-bits : OnlyTheBits
   -- ---- Holes: what is listed is a longest run of unheld positions below L, the first that starts at the place or later; 15 means that
   -- there is none.
   pub hole-says : (l : ℕ) (map : List ℕ) (place : ℕ) (hole : Hole) → listing l map place ≡ accepted hole

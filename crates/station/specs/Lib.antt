@@ -10,8 +10,10 @@ pub mod Calls
 pub mod Orders
 pub mod Demand1
 pub mod AtBoundary
+pub mod Bits
 pub mod Demand2
 pub mod Demand3
 pub mod Cases
 pub mod MoreCases
 pub mod BoundaryCases
+pub mod BitCases

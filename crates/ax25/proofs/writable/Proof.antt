@@ -10,7 +10,7 @@ is-name-requires c κs = search needs
 
 returns : tie.Need-returns
 unfolding isWritable
-returns c = simp (c .before .is-name .ensures)
+returns c = simp (c .before .before .is-name .ensures)
 
 pub writable-spec : {M : Type 1} → statement M
 writable-spec = tie.close (tie.spec is-name-requires returns)

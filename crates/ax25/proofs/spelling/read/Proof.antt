@@ -60,7 +60,7 @@ is-name-requires c κs = search needs
 
 -- the SSID byte's test, as the code has it
 abbrev right : List ℕ → ℕ → ℕ → Bool
-right s at last = eqb (byteAt s (at + 6) / 128) 0 && eqb (byteAt s (at + 6) / 32 % 4) 3 && eqb (byteAt s (at + 6) % 2) last
+right s at last = eqb (byteAt s (at + 6) / 32 % 4) 3 && eqb (byteAt s (at + 6) % 2) last
 
 whole : (role : Role) (s : List ℕ) (at last : ℕ) (named b : Bool) → last ≡ lastBit role → named ≡ isName (addressAt s at)
     → (lowBitsClear s at && right s at last && named) ≡ b → wellFormed role s at ≡ b

@@ -1,5 +1,6 @@
--- `address_of` meets its contract: by what `top_byte` answers.
+-- `address_of` meets its contract: each of a number's eight bytes is a byte.
 -- Assumes nothing.
+use mathlib.Core.Path.{refl}
 use borrow.Author.Needs.{needs}
 use Rattle.station.specs.AddressNumber.{addressOf}
 use Rattle.station.proofs.addresses.address_of.Statement.{statement}
@@ -23,14 +24,17 @@ cast-t15 c = search needs
 cast-t18 : tie.Need-cast-t18
 cast-t18 c = search needs
 
-top-byte-requires : tie.Need-top-byte-requires
-top-byte-requires c κs = search needs
+cast-t21 : tie.Need-cast-t21
+cast-t21 c = search needs
+
+cast-t23 : tie.Need-cast-t23
+cast-t23 c = search needs
 
 returns : tie.Need-returns
 unfolding addressOf
-returns c = rw (c .top-byte .ensures)
+returns c = refl
 
 pub address-of-spec : {M : Type 1} → statement M
 address-of-spec =
     tie.close
-    (tie.spec cast-t3 cast-t6 cast-t9 cast-t12 cast-t15 cast-t18 top-byte-requires returns)
+    (tie.spec cast-t3 cast-t6 cast-t9 cast-t12 cast-t15 cast-t18 cast-t21 cast-t23 returns)
