@@ -2,14 +2,14 @@
 -- Assumes nothing.
 use mathlib.Core.Path.{_≡_, refl, sym, ap, ap₂, _∙_}
 use mathlib.Core.Bool.{true, _&&_}
-use mathlib.Core.List.{List, _∷_, _++_}
+use mathlib.Core.List.{List}
 use Prim.Native.Nat.{ℕ, _+_, _*_, _%_, _<_}
 use native.Mathlib.Omega.{arith}
 use Rattle.reason.specs.Answer.{Answer, accepted, refused, telling}
 use Rattle.reason.proofs.Bools.{and-left, and-right}
 use Rattle.ax25.specs.declared.Head.{Head}
 use Rattle.ax25.specs.Address.{isWritable}
-use Rattle.ax25.specs.Head.{headOf, headBytes}
+use Rattle.ax25.specs.Head.{headBytes}
 use Rattle.ax25.specs.Information.{fileProtocol, directoryProtocol, informationOf}
 use Rattle.ax25.specs.Bits.{headWith, frameWith}
 use Rattle.ax25.proofs.SpellingLaws.{number-of-writable}
@@ -24,7 +24,7 @@ use Rattle.reception.specs.Adding.{ofPiece, after}
 use Rattle.reception.specs.Taking.{taking}
 use Rattle.request.specs.declared.Asks.{Asks}
 use Rattle.request.specs.declared.Request.{Request}
-use Rattle.request.specs.Request.{information, requestFrame}
+use Rattle.request.specs.Request.{requestFrame}
 use Rattle.request.specs.Reading.{requestChecks, requestFields, readRequest, holesRead, holesOf}
 use Rattle.taking.specs.Taking.{pieceDataIn, takingFrame, takenFrame}
 use Rattle.taking.proofs.TakingLaws.{frame-refused, frame-accepted}
