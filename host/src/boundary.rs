@@ -6,8 +6,9 @@
 //! of the exported functions. Slices may be longer than needed: what lies beyond is neither read nor
 //! written. The types above this module own their space; use this one where a station lends its own.
 //!
-//! An address is one number here: six plain characters and the number of its SSID, a byte each, least
-//! significant byte first ([`Address::to_number`](crate::Address::to_number)).
+//! An address is one number here: six plain characters, the number of its SSID, and bit 7 of its SSID byte as
+//! 0 or 1, a byte each, least significant byte first ([`Address::to_number`](crate::Address::to_number)). One
+//! that is told has the bit as it was read. One to be written whose eighth byte is above 1 is malformed: 2.
 //!
 //! From C the same functions can be called; there it is the caller who must lend slices that do not
 //! overlap, as Rust's borrows make sure of here.

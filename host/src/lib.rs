@@ -9,7 +9,7 @@
 //!   [`save`](Reception::save), [`load`](Reception::load);
 //! - [`Piece`], [`Entry`], [`Request`]: a frame, read;
 //! - [`Header`]: a file header, read with its directory entry or from the start of the file itself;
-//! - [`Address`]: a callsign and its SSID, from and to the text `VA3SFL-0`;
+//! - [`Address`]: a callsign, its SSID and bit 7 of the SSID byte, from and to the texts `VA3SFL-0` and `VA3SFL-0+bit7`;
 //! - [`Reason`]: why something was refused, with the paper's number and a sentence;
 //! - [`boundary`]: the proved functions themselves, on numbers and lent slices;
 //! - [`lock`]: a lock on an open file, for programs that share records.
