@@ -174,19 +174,18 @@ fn hole_at(information: &[u8], index: usize) -> (u32, u32) {
     (u32::from_le_bytes([bytes[0], bytes[1], bytes[2], 0]), u32::from(u16::from_le_bytes([bytes[3], bytes[4]])))
 }
 
-// Breaks one rule of an address.
+// Breaks one rule of an address. Bit 7 of its SSID byte is free, and so no fault.
 fn spoil_address(random: &mut Random, address: &mut [u8; 7]) {
     let place = random.below(6);
-    match random.below(10) {
+    match random.below(9) {
         0 => address[place] |= 1,
         1 => address[place] = random.pick(b"az") << 1,
         2 => address[0] = b' ' << 1,
         3 => address[..3].copy_from_slice(&[b'A' << 1, b' ' << 1, b'B' << 1]),
         4 => address[..6].fill(b' ' << 1),
         5 => address[place] = random.pick(b"/:@[-") << 1,
-        6 => address[6] |= 0x80,
-        7 => address[6] &= random.pick(&[0xBF, 0xDF, 0x9F]),
-        8 => address[6] ^= 1,
+        6 => address[6] &= random.pick(&[0xBF, 0xDF, 0x9F]),
+        7 => address[6] ^= 1,
         _ => address[random.below(6)] |= 0x81,
     }
 }

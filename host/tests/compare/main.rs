@@ -69,15 +69,31 @@ themes! {
         order("entry", "accepted 2"),
         order("read_request", "accepted 2")
     ]
-    pieces         2_000    250_000 [PIECE, REMAINDER]
-    entries        2_000    200_000 [ENTRY]
+    free_bits      2_000     60_000 [
+        order("piece", "accepted 2"),
+        order("entry", "accepted 2"),
+        order("read_request", "accepted 2"),
+        order("hole", "accepted 2"),
+        order("take", "accepted 2"),
+        order("write_fill", "accepted 15"),
+        order("write_start", "accepted"),
+        bits("piece"),
+        bits("entry"),
+        bits("read_request"),
+        bits("hole"),
+        bits("take"),
+        bits("write_fill"),
+        bits("write_start")
+    ]
+    pieces         2_000    250_000 [PIECE, bits("piece"), REMAINDER]
+    entries        2_000    200_000 [ENTRY, bits("entry")]
     headers        2_000    110_000 [HEADER]
-    requests_read  2_500    280_000 [READ_REQUEST, HOLE]
+    requests_read  2_500    280_000 [READ_REQUEST, bits("read_request"), HOLE, bits("hole")]
     opens         10_000     40_000 [OPEN]
-    takes          5_000    350_000 [TAKE]
+    takes          5_000    350_000 [TAKE, bits("take")]
     joins          3_000    100_000 [JOIN]
     holes          1_200    250_000 [LIST, IS_HELD, COUNT_HELD]
-    written        3_000    180_000 [WRITE_FILL, WRITE_START]
+    written        3_000    180_000 [WRITE_FILL, bits("write_fill"), WRITE_START, bits("write_start")]
     records        1_500    200_000 [SAVE, LOAD]
     numbers        4_000    100_000 [REMAINDER, IS_HELD, COUNT_HELD]
     limits           400      6_000 [
@@ -94,7 +110,11 @@ themes! {
         order("Entry::read", "accepted 1 2 3 4 7 6 5 14 8"),
         order("Header::read", "accepted 8"),
         order("Request::read", "accepted 1 2 3 4 7 5 10"),
-        order("Request::start", "accepted")
+        order("Request::start", "accepted"),
+        bits("Piece::read"),
+        bits("Entry::read"),
+        bits("Request::read"),
+        bits("Request::start")
     ]
     receptions     3_000     80_000 [
         order("Reception::open", "accepted 7"),
@@ -102,8 +122,15 @@ themes! {
         order("Reception::join", "accepted 9 11"),
         order("Reception::file", "whole not_whole"),
         order("Reception::is_held", "held unheld"),
-        order("Reception::load", "accepted 13")
+        order("Reception::load", "accepted 13"),
+        bits("Reception::take"),
+        bits("Reception::requests")
     ]
-    texts          1_500     50_000 [order("parse", "accepted 2"), order("new", "accepted 2")]
-    stations       1_200    100_000 [order("take", "accepted"), order("join", "accepted")]
+    texts          1_500    120_000 [
+        order("parse", "accepted 2"),
+        order("new", "accepted 2"),
+        order("bit7", "set clear"),
+        order("with_bit7", "set clear")
+    ]
+    stations       1_200    100_000 [order("take", "accepted"), bits("take"), order("join", "accepted")]
 }

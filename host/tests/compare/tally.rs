@@ -46,12 +46,19 @@ pub const fn order(operation: &'static str, cases: &'static str) -> Order {
     Order { operation, cases }
 }
 
+/// Which addresses of a frame that an operation reads or writes have bit 7 of their SSID byte set: each answer is wanted.
+pub const fn bits(operation: &'static str) -> Order {
+    Order { operation, cases: "neither destination source both" }
+}
+
 const LEAST_ACCEPTED: u64 = 1_000;
 const LEAST_REFUSED: u64 = 50;
 
 #[derive(Default)]
 pub struct Tally {
     counts: BTreeMap<(&'static str, &'static str), u64>,
+    // what is noted beside an operation that is counted already
+    notes: BTreeMap<(&'static str, &'static str), u64>,
 }
 
 impl Tally {
@@ -59,8 +66,20 @@ impl Tally {
         *self.counts.entry((operation, case)).or_insert(0) += 1;
     }
 
+    /// Notes of an accepted frame which of its addresses have bit 7 of their SSID byte set.
+    pub fn note_bits(&mut self, operation: &'static str, destination: bool, source: bool) {
+        let case = match (destination, source) {
+            (false, false) => "neither",
+            (true, false) => "destination",
+            (false, true) => "source",
+            (true, true) => "both",
+        };
+        *self.notes.entry((operation, case)).or_insert(0) += 1;
+    }
+
     pub fn of(&self, operation: &'static str, case: &'static str) -> u64 {
-        self.counts.get(&(operation, case)).copied().unwrap_or(0)
+        let known = self.counts.get(&(operation, case)).or_else(|| self.notes.get(&(operation, case)));
+        known.copied().unwrap_or(0)
     }
 
     /// All operations that were compared.
@@ -83,7 +102,8 @@ impl Tally {
     pub fn line(&self) -> String {
         let mut line = String::new();
         let mut last = "";
-        for (&(operation, case), count) in &self.counts {
+        let all: BTreeMap<_, _> = self.counts.iter().chain(&self.notes).collect();
+        for (&(operation, case), count) in all {
             if operation != last {
                 write!(line, "; {operation}").expect("a text takes all");
                 last = operation;
@@ -108,4 +128,17 @@ fn too_few_answers_are_noticed() {
     assert_eq!(tally.missing(LIST), Vec::<String>::new());
     assert_eq!(tally.operations(), LEAST_ACCEPTED + 3 * LEAST_REFUSED);
     assert_eq!(tally.missing(OPEN).len(), 4);
+}
+
+#[test]
+fn bits_that_are_never_set_are_noticed() {
+    let mut tally = Tally::default();
+    for _ in 0..LEAST_REFUSED {
+        tally.note_bits("piece", false, false);
+        tally.note_bits("piece", true, true);
+        tally.note_bits("piece", true, false);
+    }
+    assert_eq!(tally.missing(bits("piece")), ["piece source: 0 times, not 50"]);
+    assert_eq!(tally.missing(bits("entry")).len(), 4);
+    assert_eq!(tally.operations(), 0, "a note is no operation");
 }

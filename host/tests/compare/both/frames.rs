@@ -24,6 +24,9 @@ impl Both {
         let library = Outcome::library(answer, told, vec![lent]);
         let expected = Outcome::model(&model.clone().map(piece_told), before, vec![frame.to_vec()]);
         self.compare(("piece", frame_case(&model, frame)), &[Part::Bytes("frame", frame)], &library, &expected);
+        if let Ok(piece) = &model {
+            self.note_bits("piece", piece.destination, piece.source);
+        }
         Compared { answer: model }
     }
 
@@ -36,6 +39,9 @@ impl Both {
         let library = Outcome::library(answer, told, vec![lent]);
         let expected = Outcome::model(&model.clone().map(entry_told), before, vec![frame.to_vec()]);
         self.compare(("entry", frame_case(&model, frame)), &[Part::Bytes("frame", frame)], &library, &expected);
+        if let Ok(entry) = &model {
+            self.note_bits("entry", entry.destination, entry.source);
+        }
         Compared { answer: model }
     }
 
@@ -62,6 +68,9 @@ impl Both {
         let library = Outcome::library(answer, told, vec![lent]);
         let expected = Outcome::model(&model.clone().map(request_told), before, vec![frame.to_vec()]);
         self.compare(("read_request", frame_case(&model, frame)), &[Part::Bytes("frame", frame)], &library, &expected);
+        if let Ok(request) = &model {
+            self.note_bits("read_request", request.destination, request.source);
+        }
         Compared { answer: model }
     }
 
@@ -76,6 +85,9 @@ impl Both {
         let expected = Outcome::model(&model.clone().map(hole), before, vec![frame.to_vec()]);
         let input = [Part::Number("index", index.into()), Part::Bytes("frame", frame)];
         self.compare(("hole", frame_case(&model, frame)), &input, &library, &expected);
+        if let Ok(request) = &model {
+            self.note_bits("hole", request.destination, request.source);
+        }
     }
 
     /// Reads one frame as each of the three kinds, of which at most one accepts.

@@ -4,7 +4,7 @@ mod receptions;
 mod records;
 mod requests;
 
-use crate::model::Answer;
+use crate::model::{Address, Answer};
 use crate::random::Random;
 use crate::tally::{case, Tally};
 use std::fmt::Debug;
@@ -108,6 +108,11 @@ impl Both {
     ) {
         let case = case(model.as_ref().err().copied().unwrap_or(0), 0);
         self.equal((operation, case), input, library.map_err(Reason::number), model);
+    }
+
+    /// Notes of an accepted frame which of its addresses have bit 7 set.
+    pub fn note_bits(&mut self, operation: &'static str, destination: Address, source: Address) {
+        self.tally.note_bits(operation, destination.bit7 == 1, source.bit7 == 1);
     }
 
     /// A law that the test states in its own words; it is no compared operation.

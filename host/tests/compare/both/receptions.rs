@@ -41,6 +41,9 @@ impl Both {
         let right = Outcome::model(&expected, before, lent);
         let [a, b, c, d] = reception.shown();
         self.compare(("take", case), &[a, b, c, d, Part::Bytes("frame", frame)], &left, &right);
+        if let (Ok(_), Ok(piece)) = (expected, model::piece(frame)) {
+            self.note_bits("take", piece.destination, piece.source);
+        }
         *reception = model;
         Compared { answer: expected }
     }

@@ -19,18 +19,15 @@ impl Both {
         let mut told = before;
         let lent = Wanted { map: &map, ..wanted };
         let answer = boundary::write_fill(lent, place, &mut library, &mut told.0, &mut told.1);
-        let expected = model::write_fill(
-            address_of(wanted.destination),
-            address_of(wanted.source),
-            wanted.number,
-            wanted.length,
-            wanted.map,
-            place,
-            &mut model,
-        );
+        let (destination, source) = (address_of(wanted.destination), address_of(wanted.source));
+        let expected =
+            model::write_fill(destination, source, wanted.number, wanted.length, wanted.map, place, &mut model);
         let left = Outcome::library(answer, told, vec![map, library.clone()]);
         let right = Outcome::model(&expected, before, vec![wanted.map.to_vec(), model.clone()]);
         self.compare(("write_fill", write_case(&expected, wanted)), &shown(wanted, place, target), &left, &right);
+        if expected.is_ok() {
+            self.note_bits("write_fill", destination, source);
+        }
         Written { answer: expected, targets: [library, model] }
     }
 
@@ -51,6 +48,9 @@ impl Both {
             Part::Bytes("target", target),
         ];
         self.compare(("write_start", case), &input, &left, &right);
+        if expected.is_ok() {
+            self.note_bits("write_start", address_of(destination), address_of(source));
+        }
         [library, model]
     }
 }

@@ -33,32 +33,32 @@ pub fn file_number(random: &mut Random) -> u32 {
     }
 }
 
-/// A well formed address.
+/// A well formed address, with bit 7 of its SSID byte clear or set.
 pub fn address(random: &mut Random) -> Address {
     let mut characters = [b' '; 6];
     for character in characters.iter_mut().take(random.within(1, 6)) {
         *character = random.pick(b"ABCDEFGHIJKLMNOPQRSTUVWXYZ0123456789");
     }
-    Address { characters, number: random.below(16) as u8 }
+    Address { characters, number: random.below(16) as u8, bit7: random.below(2) as u8 }
 }
 
-/// An address as the number that the library takes: six characters, the SSID and a zero.
+/// An address as the number that the library takes: six characters, the SSID and bit 7.
 pub fn number_of(address: Address) -> u64 {
     let [a, b, c, d, e, f] = address.characters;
-    u64::from_le_bytes([a, b, c, d, e, f, address.number, 0])
+    u64::from_le_bytes([a, b, c, d, e, f, address.number, address.bit7])
 }
 
-/// The address in a number; an eighth byte makes it malformed, as an SSID above 15 does.
+/// The address in a number; a bit 7 above 1 makes it malformed, as an SSID above 15 does.
 pub fn address_of(number: u64) -> Address {
-    let [a, b, c, d, e, f, ssid, eighth] = number.to_le_bytes();
-    Address { characters: [a, b, c, d, e, f], number: if eighth == 0 { ssid } else { 255 } }
+    let [a, b, c, d, e, f, number, bit7] = number.to_le_bytes();
+    Address { characters: [a, b, c, d, e, f], number, bit7 }
 }
 
 /// A number that is no well formed address, most often.
 pub fn malformed_number(random: &mut Random) -> u64 {
     let mut bytes = number_of(address(random)).to_le_bytes();
     match random.below(8) {
-        0 => bytes[7] = random.change(),
+        0 => bytes[7] = random.within(2, 255) as u8,
         1 => bytes[6] = random.within(16, 255) as u8,
         2 => bytes[0] = b' ',
         3 => bytes[..6].fill(b' '),
@@ -73,7 +73,7 @@ pub fn malformed_number(random: &mut Random) -> u64 {
 /// The seven bytes of an address in a frame; the last bit is 0 for a destination and 1 for a source.
 pub fn address_bytes(address: Address, last: u8) -> [u8; 7] {
     let [a, b, c, d, e, f] = address.characters.map(|character| character << 1);
-    [a, b, c, d, e, f, 0x60 | address.number << 1 | last]
+    [a, b, c, d, e, f, address.bit7 << 7 | 0x60 | address.number << 1 | last]
 }
 
 /// A frame before it is put together.

@@ -22,19 +22,26 @@ fn text(characters: [u8; 6]) -> String {
     characters.iter().map(|&byte| char::from(byte)).collect()
 }
 
-/// Whether an address is well formed, so that it may be written.
-pub fn is_right(address: Address) -> bool {
-    is_padded_name(&text(address.characters)) && address.number <= 15
+/// Every number of an SSID with every bit 7: there are 32 of them.
+fn numbers_and_bits() -> impl Iterator<Item = (u8, u8)> {
+    (0..16).flat_map(|number| [(number, 0), (number, 1)])
 }
 
-/// The SSID byte of a number from 0 to 15: bit 7 is 0, bits 6–5 are 11, bits
-/// 4–1 are the number, bit 0 is 0 in the destination and 1 in the source.
-fn ssid_byte(number: u8, role: Role) -> u8 {
+/// Whether an address is well formed, so that it may be written.
+pub fn is_right(address: Address) -> bool {
+    let known = numbers_and_bits().any(|known| known == (address.number, address.bit7));
+    is_padded_name(&text(address.characters)) && known
+}
+
+/// The SSID byte of a number and a bit 7, of those that are known: bit 7 is
+/// free, bits 6–5 are 11, bits 4–1 are the number, bit 0 is 0 in the
+/// destination and 1 in the source.
+fn ssid_byte(number: u8, bit7: u8, role: Role) -> u8 {
     let last = match role {
         Role::Destination => 0,
         Role::Source => 1,
     };
-    0b0110_0000 + (number % 16) * 2 + last
+    [bit7 * 128, 64, 32, number * 2, last].iter().sum()
 }
 
 /// The seven bytes of a well formed address.
@@ -43,7 +50,7 @@ pub fn bytes_of(address: Address, role: Role) -> Vec<u8> {
     for character in address.characters {
         bytes.push(character.wrapping_mul(2));
     }
-    bytes.push(ssid_byte(address.number, role));
+    bytes.push(ssid_byte(address.number, address.bit7, role));
     bytes
 }
 
@@ -60,6 +67,6 @@ pub fn read(bytes: &[u8], role: Role) -> Option<Address> {
     if !is_padded_name(&text(characters)) {
         return None;
     }
-    let number = (0..16).find(|&number| ssid_byte(number, role) == bytes[6])?;
-    Some(Address { characters, number })
+    let (number, bit7) = numbers_and_bits().find(|&(number, bit7)| ssid_byte(number, bit7, role) == bytes[6])?;
+    Some(Address { characters, number, bit7 })
 }

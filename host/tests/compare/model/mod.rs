@@ -29,12 +29,15 @@ pub use request::{read_request, write_fill, write_start};
 /// A value, or the number of the reason of a refusal.
 pub type Answer<T> = Result<T, u8>;
 
-/// Six plain characters, padded with spaces, and the number of the SSID
-/// (01, Frame). One that is given to be written may be malformed.
+/// Six plain characters, padded with spaces, the number of the SSID, and bit 7
+/// of the SSID byte (01, Frame). One that is given to be written may be
+/// malformed.
 #[derive(Clone, Copy, Debug, PartialEq, Eq)]
 pub struct Address {
     pub characters: [u8; 6],
     pub number: u8,
+    /// 0 or 1.
+    pub bit7: u8,
 }
 
 /// A file piece (01, Frame).

@@ -22,7 +22,18 @@ fn plain(address: Address) -> model::Address {
 /// The library's address for a well formed one of the model.
 pub fn made(address: model::Address) -> Address {
     let callsign = String::from_utf8(address.characters.to_vec()).expect("letters and digits");
-    Address::new(callsign.trim_end(), address.number).expect("a right address")
+    Address::new(callsign.trim_end(), address.number).expect("a right address").with_bit7(address.bit7 == 1)
+}
+
+// The addresses of an accepted frame: each tells bit 7 as its byte has it, and its text says all that is in its bytes.
+fn addresses(both: &mut Both, operation: &'static str, frame: &[u8], [destination, source]: [Address; 2]) {
+    let input = [Part::Bytes("frame", frame)];
+    let told = (destination.bit7(), source.bit7()) == (frame[6] > 0x7F, frame[13] > 0x7F);
+    both.claim(told, "bit 7 is that of the SSID byte", &input);
+    let parsed = |address: Address| address.to_string().parse::<Address>().expect("an address's own text");
+    let written = Request::start(parsed(destination), parsed(source), 7);
+    both.claim(written[..14] == frame[..14], "a text says all that is in an address's bytes", &input);
+    both.note_bits(operation, plain(destination), plain(source));
 }
 
 // Where the bytes lie in the frame, whose own they are.
@@ -32,6 +43,7 @@ fn place_in(frame: &[u8], bytes: &[u8]) -> (usize, usize) {
 
 fn piece(both: &mut Both, frame: &[u8]) {
     let library = Piece::read(frame).map(|piece| {
+        addresses(both, "Piece::read", frame, [piece.destination, piece.source]);
         let (start, size) = place_in(frame, piece.bytes);
         let Piece { number, kind, offset, .. } = piece;
         let (destination, source) = (plain(piece.destination), plain(piece.source));
@@ -45,6 +57,7 @@ fn entry(both: &mut Both, frame: &[u8]) {
     let all = read.map_or(true, |entry| entry.header.size == entry.bytes.len());
     both.claim(all, "an entry's header has all its bytes", &input);
     let library = read.map(|entry| {
+        addresses(both, "Entry::read", frame, [entry.destination, entry.source]);
         let (start, size) = place_in(frame, entry.bytes);
         let Entry { flags, number, offset, old, new, .. } = entry;
         let (destination, source, header) = (plain(entry.destination), plain(entry.source), values(entry.header));
@@ -77,6 +90,7 @@ fn values(header: Header) -> model::Header {
 
 fn request(both: &mut Both, frame: &[u8]) {
     let library = Request::read(frame).map(|request| {
+        addresses(both, "Request::read", frame, [request.destination, request.source]);
         let (flags, holes) = match request.asks {
             Asks::Start => (0x10, Vec::new()),
             Asks::Holes(holes) => (0x11, holes.iter().map(|hole| (hole.start, hole.length)).collect()),
@@ -93,4 +107,5 @@ fn start(both: &mut Both, random: &mut Random) {
     let mut model = vec![0; 23];
     model::write_start(destination, source, number, &mut model).expect("right addresses and enough space");
     both.equal(("Request::start", ACCEPTED), &[Part::Number("number", number.into())], library, model);
+    both.note_bits("Request::start", destination, source);
 }

@@ -2,6 +2,7 @@
 pub mod addresses;
 pub mod entries;
 pub mod frames_read;
+pub mod free_bits;
 pub mod headers;
 pub mod holes;
 pub mod joins;

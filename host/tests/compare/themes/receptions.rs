@@ -45,6 +45,9 @@ impl Beside {
         let library = self.reception.take(frame);
         let model = model::take(self.number, self.length, &mut self.map, &mut self.buffer, frame);
         both.alike("Reception::take", &[Part::Bytes("frame", frame)], library, model);
+        if let (Ok(_), Ok(piece)) = (model, model::piece(frame)) {
+            both.note_bits("Reception::take", piece.destination, piece.source);
+        }
         both.claim(self.state() == self.expected(), "map and buffer are the model's", &self.input());
     }
 
@@ -146,6 +149,9 @@ fn requested(both: &mut Both, random: &mut Random, beside: &Beside) {
     let (destination, source) = (address(random), address(random));
     let frames: Vec<Vec<u8>> = beside.reception.requests(made(destination), made(source)).collect();
     let expected = beside.requests(destination, source);
+    if !expected.is_empty() {
+        both.note_bits("Reception::requests", destination, source);
+    }
     both.equal(("Reception::requests", ACCEPTED), &beside.input(), frames, expected);
 }
 

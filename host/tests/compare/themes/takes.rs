@@ -35,8 +35,8 @@ pub fn round(both: &mut Both, random: &mut Random) {
     }
 }
 
-// A fresh reception, one that holds a part, or one in which positions are held at random.
-fn start(random: &mut Random, file: &File) -> Lent {
+/// A fresh reception, one that holds a part, or one in which positions are held at random.
+pub fn start(random: &mut Random, file: &File) -> Lent {
     match random.below(6) {
         0 => Lent::rubbish(random, file.number, file.length()),
         1 | 2 => {
