@@ -146,22 +146,26 @@ fn a_malformed_address_is_marked_at_each_of_its_faults() {
     let source = "bit 0 of 6C at place 13 is 0, as in a destination; in a source it announces repeaters";
     let cause = format!("the source is malformed: {source}");
     explained(&room, Reason::Address, &piece_with(13, 0x6C), &cause, &[("source", source)]);
+    // bit 7 is free, and makes nothing right
+    let source = source.replace("6C", "EC");
+    let cause = format!("the source is malformed: {source}");
+    explained(&room, Reason::Address, &piece_with(13, 0xEC), &cause, &[("source", &source)]);
     let mut frame = piece_with(0, 0xE2);
     frame[1] = 0x40;
-    frame[3..7].copy_from_slice(&[0x40, 0x40, 0x40, 0xE3]);
+    frame[3..7].copy_from_slice(&[0x40, 0x40, 0x40, 0xC3]);
     frame[7..13].fill(0x40);
     let wanted = [
         ("destination", "E2 at place 0 is `q`, in lower case; `Q` is A2"),
         ("destination", "40 at place 1 is a space before the character at place 2"),
-        ("destination", "bit 7 of E3 at place 6 is 1, and must be 0"),
-        ("destination", "bit 0 of E3 at place 6 is 1, as in a source; in a destination it is 0"),
+        ("destination", "bit 5 of C3 at place 6 is 0, and must be 1"),
+        ("destination", "bit 0 of C3 at place 6 is 1, as in a source; in a destination it is 0"),
         ("source", "all six characters are spaces"),
     ];
     let cause = format!("the destination is malformed: {} (and 4 more faults)", wanted[0].1);
     explained(&room, Reason::Address, &frame, &cause, &wanted);
     // it is not shown as if it were good, and a good one is
     let text = room.run(&["explain", "frame"]).text;
-    assert!(text.contains("\n    0  E2 40 A8 40 40 40 E3     destination   malformed <-- reason 2: E2 at"), "{text}");
+    assert!(text.contains("\n    0  E2 40 A8 40 40 40 C3     destination   malformed <-- reason 2: E2 at"), "{text}");
     assert!(text.contains(&format!("\n{:46}<-- reason 2: 40 at place 1 is a space", "")), "{text}");
     assert!(text.contains("\n    7  40 40 40 40 40 40 77     source        malformed <-- reason 2: all"), "{text}");
     room.write("frame", &piece_with(13, 0x6C));

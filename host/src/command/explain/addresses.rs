@@ -1,8 +1,7 @@
 //! An address in a frame: what its seven bytes mean, and which character or which bit of a malformed one is at fault.
 //! Whether it is malformed is the library's answer.
 use super::faults::Fault;
-use crate::command::bytes::characters;
-use thoweldeck::{Piece, Reason};
+use thoweldeck::{Address, Request};
 
 /// Which of a frame's two addresses it is.
 #[derive(Clone, Copy, Debug, PartialEq, Eq)]
@@ -39,24 +38,33 @@ impl Role {
     }
 }
 
-// The bits of the SSID byte above its number, and what each must be.
-const ABOVE: [(u8, u8); 3] = [(7, 0), (6, 1), (5, 1)];
+// The bits of the SSID byte above its number that must be set. Bit 7 is free.
+const ABOVE: [u8; 2] = [6, 5];
 
 /// What the seven bytes of an address mean.
 pub fn meaning(role: Role, bytes: &[u8]) -> String {
-    if is_malformed(role, bytes) {
-        return "malformed".to_string();
-    }
-    let callsign: Vec<u8> = bytes[..6].iter().map(|byte| byte >> 1).collect();
-    let (callsign, ssid) = (characters(&callsign), bytes[6]);
-    format!("{}-{}: characters shifted left by one bit, SSID byte {ssid:02X}", callsign.trim_end(), ssid >> 1 & 15)
+    let address = match read(role, bytes) {
+        None => return "malformed".to_string(),
+        Some(address) => address,
+    };
+    let bit7 = if address.bit7() { "; bit 7 is set, by which AX.25 2.2 tells commands from responses" } else { "" };
+    format!("{address}: characters shifted left by one bit, SSID byte {:02X}{bit7}", bytes[6])
 }
 
-/// Whether an address is malformed: the library is asked about it in a frame of nothing else.
+/// Whether an address is malformed.
 pub fn is_malformed(role: Role, bytes: &[u8]) -> bool {
-    let mut probe = *b"\xA2\xA6\xA8\x40\x40\x40\x62\xA2\xA6\xA8\x40\x40\x40\x63\x03\xBB";
+    read(role, bytes).is_none()
+}
+
+// The address in seven bytes, where it is well formed: the library is asked about it in a frame that has no other fault.
+fn read(role: Role, bytes: &[u8]) -> Option<Address> {
+    let mut probe = *b"\xA2\xA6\xA8\x40\x40\x40\x62\xA2\xA6\xA8\x40\x40\x40\x63\x03\xBB\x10\0\0\0\0\xF4\0";
     probe[role.place()..role.place() + 7].copy_from_slice(bytes);
-    Piece::read(&probe) == Err(Reason::Address)
+    let request = Request::read(&probe).ok()?;
+    Some(match role {
+        Role::Destination => request.destination,
+        Role::Source => request.source,
+    })
 }
 
 /// The faults of an address, each at its place in the frame.
@@ -113,11 +121,8 @@ fn plain(byte: u8) -> String {
 // What is wrong with the bits of an SSID byte: those above its number, and bit 0, which says which address it is.
 fn bits(role: Role, ssid: u8) -> Vec<String> {
     let of = format!("of {ssid:02X} at place {}", role.place() + 6);
-    let mut words: Vec<String> = ABOVE
-        .into_iter()
-        .filter(|(bit, wanted)| ssid >> bit & 1 != *wanted)
-        .map(|(bit, wanted)| format!("bit {bit} {of} is {}, and must be {wanted}", 1 - wanted))
-        .collect();
+    let clear = ABOVE.into_iter().filter(|bit| ssid >> bit & 1 == 0);
+    let mut words: Vec<String> = clear.map(|bit| format!("bit {bit} {of} is 0, and must be 1")).collect();
     match (role, ssid & 1) {
         (Role::Destination, 1) => words.push(format!("bit 0 {of} is 1, as in a source; in a destination it is 0")),
         (Role::Source, 0) => {
@@ -227,8 +232,8 @@ mod tests {
     fn each_fault_of_a_bit_has_its_words() {
         let (to, from) = (Role::Destination, Role::Source);
         for (found, place, words) in [
-            (told(to, b"QST   ", 0xE2, &[]), 6, "bit 7 of E2 at place 6 is 1, and must be 0"),
             (told(to, b"QST   ", 0x22, &[]), 6, "bit 6 of 22 at place 6 is 0, and must be 1"),
+            (told(to, b"QST   ", 0xC2, &[]), 6, "bit 5 of C2 at place 6 is 0, and must be 1"),
             (told(from, b"QST   ", 0x43, &[]), 13, "bit 5 of 43 at place 13 is 0, and must be 1"),
             (
                 told(to, b"QST   ", 0x63, &[]),
@@ -240,9 +245,43 @@ mod tests {
                 13,
                 "bit 0 of 6C at place 13 is 0, as in a destination; in a source it announces repeaters",
             ),
+            (
+                told(from, b"QST   ", 0xEC, &[]),
+                13,
+                "bit 0 of EC at place 13 is 0, as in a destination; in a source it announces repeaters",
+            ),
         ] {
             assert_eq!(found, [(place, words.to_string())]);
         }
-        assert_eq!(told(from, b"QST   ", 0x80, &[]).len(), 4, "each bit");
+        assert_eq!(told(from, b"QST   ", 0x80, &[]).len(), 3, "each bit but the free one");
+    }
+
+    #[test]
+    fn bit_7_is_no_fault_and_is_told() {
+        for (role, last) in [(Role::Destination, 0), (Role::Source, 1)] {
+            for number in 0..16 {
+                let plain = 0x60 | number << 1 | last;
+                for ssid in [plain, plain | 0x80] {
+                    assert_eq!(told(role, b"QST   ", ssid, &[]), [], "{role:?} {ssid:02X}");
+                }
+                let shown = |ssid: u8| meaning(role, &shifted(b"QST   ", ssid));
+                let words = "characters shifted left by one bit, SSID byte";
+                assert_eq!(shown(plain), format!("QST-{number}: {words} {plain:02X}"));
+                let set = "; bit 7 is set, by which AX.25 2.2 tells commands from responses";
+                assert_eq!(shown(plain | 0x80), format!("QST-{number}+bit7: {words} {:02X}{set}", plain | 0x80));
+            }
+        }
+    }
+
+    #[test]
+    fn the_text_that_is_shown_is_the_address_s_own() {
+        for (role, ssid) in [(Role::Destination, 0xF6), (Role::Destination, 0x60), (Role::Source, 0xE1)] {
+            let bytes = shifted(b"VA3SFL", ssid);
+            let shown = meaning(role, &bytes);
+            let text = shown.split(": ").next().expect("a text");
+            let (address, other): (Address, Address) = (text.parse().expect(text), "QST".parse().expect("a call"));
+            let (to, from) = if role == Role::Source { (other, address) } else { (address, other) };
+            assert_eq!(role.bytes(&Request::start(to, from, 7)), Some(&bytes[..]), "{shown}");
+        }
     }
 }
