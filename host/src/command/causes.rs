@@ -72,9 +72,11 @@ impl Cause {
         Cause { reason: Reason::Size, words }
     }
 
-    /// The cause of a text that is no address: what stands in it in the place of a callsign and its SSID, as `VA3SFL-0`.
+    /// The cause of a text that is no address: what stands in it in the place of a callsign and its SSID, as `VA3SFL-0`,
+    /// or behind them.
     pub fn of_call(text: &str) -> Cause {
-        let (callsign, ssid) = text.split_once('-').map_or((text, None), |(callsign, ssid)| (callsign, Some(ssid)));
+        let (plain, end) = text.split_at(text.find('+').unwrap_or(text.len()));
+        let (callsign, ssid) = plain.split_once('-').map_or((plain, None), |(callsign, ssid)| (callsign, Some(ssid)));
         let strange = callsign.chars().find(|c| !c.is_ascii_uppercase() && !c.is_ascii_digit());
         let words = match (callsign.chars().count(), strange, ssid) {
             (0, ..) => "it has no callsign".to_string(),
@@ -83,6 +85,9 @@ impl Cause {
             }
             (_, Some(c), _) => format!("`{}` is none of A-Z and 0-9", escaped(&c.to_string())),
             (count, ..) if count > 6 => format!("the callsign has {count} characters, and 6 is the most"),
+            _ if !matches!(end, "" | "+bit7") => {
+                format!("it ends in `{}`, and only `+bit7` may stand there", escaped(end))
+            }
             (.., Some(ssid)) => format!("the SSID is `{}`, and must be 0 to 15", escaped(ssid)),
             _ => Reason::Address.sentence().to_string(),
         };
@@ -176,6 +181,16 @@ mod tests {
             ("VA3SFL-16", "the SSID is `16`, and must be 0 to 15"),
             ("VA3SFL-07", "the SSID is `07`, and must be 0 to 15"),
             ("VA3SFL-", "the SSID is ``, and must be 0 to 15"),
+            ("VA3SFL-16+bit7", "the SSID is `16`, and must be 0 to 15"),
+            ("VA3sFL+bit7", "`s` is a small letter, and a callsign has A-Z and 0-9"),
+            ("QRPX1234+bit7", "the callsign has 8 characters, and 6 is the most"),
+            ("+bit7", "it has no callsign"),
+            ("VA3SFL-0+bit8", "it ends in `+bit8`, and only `+bit7` may stand there"),
+            ("VA3SFL+BIT7", "it ends in `+BIT7`, and only `+bit7` may stand there"),
+            ("VA3SFL-0+bit7+bit7", "it ends in `+bit7+bit7`, and only `+bit7` may stand there"),
+            ("VA3SFL+bit7-0", "it ends in `+bit7-0`, and only `+bit7` may stand there"),
+            ("VA3SFL-0+", "it ends in `+`, and only `+bit7` may stand there"),
+            ("VA3SFL-0+\n", "it ends in `+\\n`, and only `+bit7` may stand there"),
         ] {
             let reason = text.parse::<thoweldeck::Address>().expect_err(text);
             assert_eq!(Cause::of_call(text), Cause { reason, words: words.to_string() });

@@ -81,11 +81,14 @@ thoweldeck holes RECORD
     (
         "request",
         "\
-thoweldeck request RECORD --from CALL --to CALL -o DIR
-thoweldeck request RECORD|--number N --start --from CALL --to CALL -o DIR
+thoweldeck request RECORD --from CALL --to CALL -o DIR [--bit7 destination|source|both]
+thoweldeck request RECORD|--number N --start --from CALL --to CALL -o DIR [--bit7 ..]
     Writes the frames that ask for every hole, 49 at most in a frame, into the folder DIR. CALL is a
     callsign and its SSID, as VA3SFL-0. The frames name every byte that is missing once, and no other.
     With --start it is one frame that asks for the file from its start: a record's file, or file N.
+    With --bit7, bit 7 of the SSID byte is set in the destination, the source or both, in every frame;
+    a CALL that ends in +bit7, as VA3SFL-0+bit7, has it set too. Otherwise it is clear. Some newer
+    stations expect the bits of AX.25 2.2, where a command has the destination's set.
 ",
     ),
     (

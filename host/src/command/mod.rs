@@ -87,7 +87,12 @@ const PARTS: [Part; 8] = [
     Part { name: "take", run: take::run, switches: &[], options: &["--number", "--length"] },
     Part { name: "join", run: join::run, switches: &[], options: &["-o"] },
     Part { name: "holes", run: holes::run, switches: &[], options: &[] },
-    Part { name: "request", run: request::run, switches: &["--start"], options: &["--from", "--to", "--number", "-o"] },
+    Part {
+        name: "request",
+        run: request::run,
+        switches: &["--start"],
+        options: &["--from", "--to", "--bit7", "--number", "-o"],
+    },
     Part { name: "show", run: show::run, switches: &[], options: &[] },
     Part { name: "save", run: save::run, switches: &["--body"], options: &["-o"] },
     Part { name: "list", run: list::run, switches: &[], options: &[] },
@@ -138,6 +143,19 @@ mod tests {
 
         fn flush(&mut self) -> io::Result<()> {
             Ok(())
+        }
+    }
+
+    #[test]
+    fn the_page_of_a_part_names_every_option() {
+        for part in PARTS {
+            let mut page = Vec::new();
+            help::of(part.name, &mut Out::to(&mut page)).expect("a page");
+            let page = String::from_utf8(page).expect("a text");
+            for option in part.switches.iter().chain(part.options) {
+                let mut words = page.split(|c: char| !c.is_alphanumeric() && c != '-');
+                assert!(words.any(|word| word == *option), "{}: {option}", part.name);
+            }
         }
     }
 

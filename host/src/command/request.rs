@@ -10,7 +10,7 @@ use std::path::Path;
 use thoweldeck::{Address, Request};
 
 pub fn run(words: Words, out: &mut Out<'_>) -> End {
-    let (from, to) = (address(&words, "--from")?, address(&words, "--to")?);
+    let (from, to) = addresses(&words)?;
     let folder = words.path("-o")?;
     let frames = if words.has("--start") {
         vec![Request::start(to, from, file_to_start(&words)?)]
@@ -47,6 +47,22 @@ fn file_to_start(words: &Words) -> Result<u32, Failure> {
         Some(number) if words.none() => Ok(number),
         Some(_) => Err(Failure::Trouble("a record and `--number` both say which file: give one of them".to_string())),
     }
+}
+
+// Who asks and who is asked, each with bit 7 where its own text says so or `--bit7` does. Refuses 2.
+fn addresses(words: &Words) -> Result<(Address, Address), Failure> {
+    let (from, to) = (address(words, "--from")?, address(words, "--to")?);
+    let (source, destination) = match words.text("--bit7").as_deref() {
+        Err(_) => (false, false),
+        Ok("source") => (true, false),
+        Ok("destination") => (false, true),
+        Ok("both") => (true, true),
+        Ok(word) => {
+            let line = format!("`--bit7 {}` is none of destination, source and both", escaped(word));
+            return Err(Failure::Trouble(line));
+        }
+    };
+    Ok((from.with_bit7(from.bit7() || source), to.with_bit7(to.bit7() || destination)))
 }
 
 // The address that an option gives. Refuses 2.

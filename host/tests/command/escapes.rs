@@ -75,6 +75,8 @@ fn words_are_shown_with_escapes() {
         (&["take", "b", "1", "--number=*"], "`--number *` is not the number of a file"),
         (&["explain", "1", "--as", "*"], "`--as *` is none of"),
         (&["request", "a", "--from", "*", "--to", "QST", "-o", "d"], "`--from *`: refused, reason 2: "),
+        (&["request", "a", "--from", "QST+*", "--to", "QST", "-o", "d"], "it ends in `+*`, and only `+bit7` may"),
+        (&["request", "a", "--from", "QST", "--to", "QST", "-o", "d", "--bit7", "*"], "`--bit7 *` is none of"),
     ] {
         told(&room, words, said);
     }
