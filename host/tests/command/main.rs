@@ -1,4 +1,5 @@
 //! The command `thoweldeck`, run as a user runs it: what it prints, its exit status, and what it leaves in files.
+mod bits;
 mod dumps;
 mod escapes;
 mod explaining;
