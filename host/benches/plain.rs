@@ -310,20 +310,21 @@ fn read_address(bytes: &[u8; 7], last: u8) -> Result<u64, Reason> {
         odd |= b;
         *c = b >> 1;
     }
-    if odd & 1 != 0 || bytes[6] & 0xE1 != 0x60 | last || !is_callsign(&address[..6]) {
+    if odd & 1 != 0 || bytes[6] & 0x61 != 0x60 | last || !is_callsign(&address[..6]) {
         return Err(Reason::Address);
     }
     address[6] = (bytes[6] >> 1) & 15;
+    address[7] = bytes[6] >> 7;
     Ok(u64::from_le_bytes(address))
 }
 
 /// The seven bytes of an address in a frame, or reason 2.
 fn address_bytes(address: u64, last: u8) -> Result<[u8; 7], Reason> {
-    let [a, b, c, d, e, f, ssid, rest] = address.to_le_bytes();
-    if rest != 0 || ssid > 15 || !is_callsign(&[a, b, c, d, e, f]) {
+    let [a, b, c, d, e, f, ssid, bit7] = address.to_le_bytes();
+    if bit7 > 1 || ssid > 15 || !is_callsign(&[a, b, c, d, e, f]) {
         return Err(Reason::Address);
     }
-    Ok([a << 1, b << 1, c << 1, d << 1, e << 1, f << 1, 0x60 | (ssid << 1) | last])
+    Ok([a << 1, b << 1, c << 1, d << 1, e << 1, f << 1, (bit7 << 7) | 0x60 | (ssid << 1) | last])
 }
 
 /// Both addresses and the information of a frame. Refuses 1, 2, 3, 4, 7.
