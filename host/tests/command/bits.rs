@@ -36,13 +36,13 @@ fn a_frame_with_the_bits_is_explained_as_the_plain_one() {
         let pairs: Vec<(&str, &str)> = with.text.lines().zip(without.text.lines()).collect();
         assert_eq!(pairs.len(), without.text.lines().count(), "{name}");
         let other: Vec<&str> = pairs.iter().filter(|(one, other)| one != other).map(|(one, _)| *one).collect();
-        let set = "bit 7 is set, by which AX.25 2.2 tells commands from responses";
+        let set = "bit 7 set: AX.25 2.2 tells commands from responses by it";
         let shifted = "characters shifted left by one bit, SSID byte";
         assert_eq!(
             other,
             [
-                format!("    0  A2 A6 A8 40 40 40 E2     destination   QST-1+bit7: {shifted} E2; {set}"),
-                format!("    7  AA 9E A6 82 A8 6A F7     source        UOSAT5-11+bit7: {shifted} F7; {set}"),
+                format!("    0  A2 A6 A8 40 40 40 E2     destination   QST-1+bit7: {shifted} E2, {set}"),
+                format!("    7  AA 9E A6 82 A8 6A F7     source        UOSAT5-11+bit7: {shifted} F7, {set}"),
             ],
             "{name}"
         );
@@ -59,7 +59,8 @@ fn each_bit_is_told_of_its_own_address() {
         let ran = room.run(&["explain", "frame"]);
         assert_eq!(ran.status, 0, "{ran:?}");
         assert_eq!([address(&ran.text, "destination"), address(&ran.text, "source")], shown);
-        assert_eq!(ran.text.matches("bit 7 is set").count(), 1, "{ran:?}");
+        let count = |words: &str| ran.text.matches(words).count();
+        assert_eq!([count(", bit 7 set: "), count(", bit 7 clear\n")], [1, 1], "{ran:?}");
     }
 }
 

@@ -170,7 +170,10 @@ fn a_malformed_address_is_marked_at_each_of_its_faults() {
     assert!(text.contains("\n    7  40 40 40 40 40 40 77     source        malformed <-- reason 2: all"), "{text}");
     room.write("frame", &piece_with(13, 0x6C));
     let text = room.run(&["explain", "frame"]).text;
-    assert!(text.contains("destination   QST-1: characters shifted left by one bit, SSID byte 62\n"), "{text}");
+    assert!(
+        text.contains("destination   QST-1: characters shifted left by one bit, SSID byte 62, bit 7 clear\n"),
+        "{text}"
+    );
 }
 
 #[test]

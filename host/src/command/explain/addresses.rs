@@ -47,8 +47,8 @@ pub fn meaning(role: Role, bytes: &[u8]) -> String {
         None => return "malformed".to_string(),
         Some(address) => address,
     };
-    let bit7 = if address.bit7() { "; bit 7 is set, by which AX.25 2.2 tells commands from responses" } else { "" };
-    format!("{address}: characters shifted left by one bit, SSID byte {:02X}{bit7}", bytes[6])
+    let bit7 = if address.bit7() { "set: AX.25 2.2 tells commands from responses by it" } else { "clear" };
+    format!("{address}: characters shifted left by one bit, SSID byte {:02X}, bit 7 {bit7}", bytes[6])
 }
 
 /// Whether an address is malformed.
@@ -266,8 +266,8 @@ mod tests {
                 }
                 let shown = |ssid: u8| meaning(role, &shifted(b"QST   ", ssid));
                 let words = "characters shifted left by one bit, SSID byte";
-                assert_eq!(shown(plain), format!("QST-{number}: {words} {plain:02X}"));
-                let set = "; bit 7 is set, by which AX.25 2.2 tells commands from responses";
+                assert_eq!(shown(plain), format!("QST-{number}: {words} {plain:02X}, bit 7 clear"));
+                let set = ", bit 7 set: AX.25 2.2 tells commands from responses by it";
                 assert_eq!(shown(plain | 0x80), format!("QST-{number}+bit7: {words} {:02X}{set}", plain | 0x80));
             }
         }
