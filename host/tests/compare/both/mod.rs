@@ -115,6 +115,11 @@ impl Both {
         self.tally.note_bits(operation, destination.bit7 == 1, source.bit7 == 1);
     }
 
+    /// The same by the frame's own SSID bytes, where nothing is told of them.
+    pub fn note_bits_of(&mut self, operation: &'static str, frame: &[u8]) {
+        self.tally.note_bits(operation, frame[6] >= 0x80, frame[13] >= 0x80);
+    }
+
     /// A law that the test states in its own words; it is no compared operation.
     pub fn claim(&self, holds: bool, law: &str, input: &[Part]) {
         if !holds {

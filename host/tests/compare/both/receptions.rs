@@ -41,8 +41,8 @@ impl Both {
         let right = Outcome::model(&expected, before, lent);
         let [a, b, c, d] = reception.shown();
         self.compare(("take", case), &[a, b, c, d, Part::Bytes("frame", frame)], &left, &right);
-        if let (Ok(_), Ok(piece)) = (expected, model::piece(frame)) {
-            self.note_bits("take", piece.destination, piece.source);
+        if expected.is_ok() {
+            self.note_bits_of("take", frame);
         }
         *reception = model;
         Compared { answer: expected }

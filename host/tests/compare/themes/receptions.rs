@@ -45,8 +45,8 @@ impl Beside {
         let library = self.reception.take(frame);
         let model = model::take(self.number, self.length, &mut self.map, &mut self.buffer, frame);
         both.alike("Reception::take", &[Part::Bytes("frame", frame)], library, model);
-        if let (Ok(_), Ok(piece)) = (model, model::piece(frame)) {
-            both.note_bits("Reception::take", piece.destination, piece.source);
+        if model.is_ok() {
+            both.note_bits_of("Reception::take", frame);
         }
         both.claim(self.state() == self.expected(), "map and buffer are the model's", &self.input());
     }
