@@ -1,6 +1,7 @@
 -- Bit 7 of a frame's two SSID bytes (02, C-12) decides nothing: whatever they are, a frame gets the same answer but for the bits.
 -- Assumes nothing.
 use mathlib.Core.Path.{_≡_, refl, sym, ap, _∙_}
+use mathlib.Core.Bool.{true, _&&_}
 use mathlib.Core.Logic.{⊎-elim}
 use mathlib.Core.List.{List, [], _∷_, _++_}
 use Prim.Native.Nat.{ℕ, zero, suc, _+_, _*_, _/_, _%_, _≤_, _<_}
@@ -10,16 +11,18 @@ use lib.ListN.{length, set, drop, length-set}
 use lib.Seq.{getD-set-same, getD-set-other}
 use Rattle.reason.specs.Answer.{telling}
 use Rattle.reason.specs.Order.{Check, firstOf}
-use Rattle.reason.proofs.Bools.{le-or-lt}
+use Rattle.reason.proofs.Bools.{and-left, and-right, le-or-lt}
 use Rattle.reason.proofs.OrderLaws.{refused-then, first-telling}
 use Rattle.octets.specs.Numbers.{byteAt}
+use Rattle.ax25.specs.declared.Address.{Address}
 use Rattle.ax25.specs.declared.Role.{Role}
 use Rattle.ax25.specs.declared.Role.the-variants.{Destination, Source}
 use Rattle.ax25.specs.declared.Head.{Head}
-use Rattle.ax25.specs.Address.{isName, addressAt, wellFormed}
-use Rattle.ax25.specs.Head.{headLength, headChecks, headOf}
+use Rattle.ax25.specs.Address.{isName, isWritable, addressAt, wellFormed}
+use Rattle.ax25.specs.Head.{headLength, headChecks, headOf, headBytes}
 use Rattle.ax25.specs.Information.{informationOf}
 use Rattle.ax25.specs.Bits.{addressWith, headWith, byteWith, frameWith}
+use Rattle.ax25.proofs.SpellingLaws.{number-of-writable}
 use Rattle.ax25.proofs.HeadLaws.{reads-1}
 
 -- a byte with another bit 7: its other bits stay
@@ -121,3 +124,17 @@ module _ (to from : ℕ) (frame : List ℕ) where
         refused-then (headChecks protocol chosen) _ (headOf chosen) _ 1 (reads-1 protocol chosen (omega (arith, as-long)))
         ∙ ap (telling withBits) (sym (refused-then (headChecks protocol frame) (checks (informationOf frame)) (headOf frame) _ 1 (reads-1 protocol frame l))))
         (le-or-lt headLength (length frame))
+
+-- the SSID byte of an address that can be written, with another bit
+ssid-with : (bit other number last : ℕ) → number < 16 → last < 2
+    → bit * 128 + 0x60 + number * 2 + last ≡ bit * 128 + (other * 128 + 0x60 + number * 2 + last) % 128
+ssid-with bit other number last n l = omega arith
+
+-- a head that is written for addresses with other bits, whatever is behind it, is the same frame with these bits
+pub written-with : (to from : ℕ) (d s : Address) (protocol : ℕ) (information : List ℕ) → (isWritable d && isWritable s) ≡ true
+    → headBytes (addressWith to d) (addressWith from s) protocol ++ information ≡ frameWith to from (headBytes d s protocol ++ information)
+unfolding headBytes
+written-with to from d s protocol information w =
+    let n = number-of-writable d (and-left _ (isWritable s) w) in
+    let m = number-of-writable s (and-right (isWritable d) _ w) in
+    rw (ssid-with to (d .bit7) (d .number) 0 n (omega arith), ssid-with from (s .bit7) (s .number) 1 m (omega arith)) refl

@@ -3,34 +3,27 @@
 use mathlib.Core.Path.{_≡_, refl}
 use mathlib.Core.List.{List, [], _∷_, _++_}
 use Prim.Native.Nat.{ℕ}
-use lib.ListN.{set, take, replicate}
+use lib.ListN.{take, replicate}
 use Rattle.reason.specs.Answer.{accepted, refused}
 use Rattle.reason.specs.Order.{firstOf}
 use Rattle.octets.specs.Runs.{putIn}
 use Rattle.ax25.specs.declared.Role.the-variants.{Destination, Source}
-use Rattle.ax25.specs.declared.Head.{Head}
 use Rattle.ax25.specs.Address.{isName, isWritable, addressAt, wellFormed, readAddress, writeAddress}
 use Rattle.ax25.specs.Head.{headChecks, headOf, readHead, headBytes, writeHead}
 use Rattle.ax25.specs.Bits.{addressWith, frameWith}
-use Rattle.ax25.specs.Examples.{va3sfl, va3sflBytes, uosat5, uosat5Bytes, qst, qstBytes, lowerBytes, spaces, spacesBytes}
+use Rattle.ax25.specs.Examples.{va3sfl, va3sflBytes, uosat5, uosat5Bytes, qst, qstBytes, ssids, lowerBytes, spaces, spacesBytes}
 
 -- a head from UOSAT5-11 to VA3SFL-0
 abbrev pub frame : ℕ → ℕ → List ℕ
 frame control protocol = va3sflBytes ++ uosat5Bytes 0x77 ++ control ∷ protocol ∷ []
 
--- .. with the two SSID bytes, and what it says with the two bits
-abbrev pub frameOf : ℕ → ℕ → List ℕ
-frameOf to from = set (set (frame 0x03 0xBB) 6 to) 13 from
-
-abbrev pub saying : ℕ → ℕ → Head
-saying to from = record { destination = addressWith to va3sfl; source = addressWith from (uosat5 11) }
-
--- it is read and written
+-- .. with other SSID bytes is read as the same head with other bits, and written
 abbrev pub BothWays : ℕ → ℕ → ℕ → ℕ → Type 0
 BothWays to from bit bit′ =
-    (readHead 0xBB (frameOf to from) ≡ accepted (saying bit bit′))
-    × (writeHead (replicate 16 0) (addressWith bit va3sfl) (addressWith bit′ (uosat5 11)) 0xBB ≡ accepted (frameOf to from))
-    × (frameWith bit bit′ (frame 0x03 0xBB) ≡ frameOf to from)
+    let changed = ssids to from (frame 0x03 0xBB) in
+    (readHead 0xBB changed ≡ accepted (record { destination = addressWith bit va3sfl; source = addressWith bit′ (uosat5 11) }))
+    × (writeHead (replicate 16 0) (addressWith bit va3sfl) (addressWith bit′ (uosat5 11)) 0xBB ≡ accepted changed)
+    × (frameWith bit bit′ (frame 0x03 0xBB) ≡ changed)
 
 pub record Cases : Type 0 where
   pub va3sfl-written : writeAddress Destination (replicate 7 0) 0 va3sfl ≡ accepted va3sflBytes

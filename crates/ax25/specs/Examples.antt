@@ -2,6 +2,7 @@
 -- Assumes nothing.
 use mathlib.Core.List.{List, [], _∷_}
 use Prim.Native.Nat.{ℕ}
+use lib.ListN.{set}
 use Rattle.ax25.specs.declared.Address.{Address}
 
 -- VA3SFL-0
@@ -27,6 +28,10 @@ qst = record { c0 = 0x51; c1 = 0x53; c2 = 0x54; c3 = 0x20; c4 = 0x20; c5 = 0x20;
 -- .. as destination, as Direwolf sends it; its source's SSID byte is then F7
 abbrev pub qstBytes : List ℕ
 qstBytes = 0xA2 ∷ 0xA6 ∷ 0xA8 ∷ 0x40 ∷ 0x40 ∷ 0x40 ∷ 0xE2 ∷ []
+
+-- a frame with other SSID bytes, of its destination and of its source
+abbrev pub ssids : ℕ → ℕ → List ℕ → List ℕ
+ssids to from frame = set (set frame 6 to) 13 from
 
 -- uOSAT5-11 as source: the first character in lower case
 abbrev pub lowerBytes : List ℕ

@@ -59,18 +59,6 @@ pub(crate) fn right(length: u32, bits: u32, place: u32) -> Ask {
     }
 }
 
-// A request with faults.
-pub(crate) fn with(faults: Faults, ask: Ask) -> Ask {
-    Ask {
-        faults,
-        length: ask.length,
-        bits: ask.bits,
-        lent: ask.lent,
-        place: ask.place,
-        size: ask.size,
-    }
-}
-
 // Writes a request for holes over other bytes.
 pub(crate) fn fill(ask: Ask, before: [u8; 640]) -> Asked {
     let map = map(ask.bits);

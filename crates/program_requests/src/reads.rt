@@ -32,7 +32,9 @@ pub(crate) fn back() {
 
 // The lines of the worked request and of one for the start, with bits that the caller chooses.
 fn bits(first: usize, second: usize) {
-    let ask = bases::with(Faults { first, second }, bases::right(20, bases::WORKED, 0));
+    let faults = Faults { first, second };
+    let mut ask = bases::right(20, bases::WORKED, 0);
+    ask.faults = faults;
     let asked = bases::fill(ask, [0xA5; 640]);
     let bytes = asked.bytes;
     shown(Bytes { bytes, size: 33 });

@@ -3,17 +3,13 @@
 use mathlib.Core.Path.{_≡_, refl, sym, ap, ap₂, _∙_}
 use mathlib.Core.Bool.{true, _&&_}
 use mathlib.Core.List.{List}
-use Prim.Native.Nat.{ℕ, _+_, _*_, _%_, _<_}
-use native.Mathlib.Omega.{arith}
+use Prim.Native.Nat.{ℕ}
 use Rattle.reason.specs.Answer.{Answer, accepted, refused, telling}
-use Rattle.reason.proofs.Bools.{and-left, and-right}
 use Rattle.ax25.specs.declared.Head.{Head}
 use Rattle.ax25.specs.Address.{isWritable}
-use Rattle.ax25.specs.Head.{headBytes}
 use Rattle.ax25.specs.Information.{fileProtocol, directoryProtocol, informationOf}
 use Rattle.ax25.specs.Bits.{headWith, frameWith}
-use Rattle.ax25.proofs.SpellingLaws.{number-of-writable}
-use Rattle.ax25.proofs.BitLaws.{information-stays, but-for-bits}
+use Rattle.ax25.proofs.BitLaws.{information-stays, but-for-bits, written-with}
 use Rattle.frame.specs.declared.Piece.{Piece}
 use Rattle.frame.specs.declared.Entry.{Entry}
 use Rattle.frame.specs.Piece.{pieceChecks, pieceFields, readPiece, dataPart, pieceBytesRead, pieceBytes}
@@ -24,7 +20,7 @@ use Rattle.reception.specs.Adding.{ofPiece, after}
 use Rattle.reception.specs.Taking.{taking}
 use Rattle.request.specs.declared.Asks.{Asks}
 use Rattle.request.specs.declared.Request.{Request}
-use Rattle.request.specs.Request.{requestFrame}
+use Rattle.request.specs.Request.{information, requestFrame}
 use Rattle.request.specs.Reading.{requestChecks, requestFields, readRequest, holesRead, holesOf}
 use Rattle.taking.specs.Taking.{pieceDataIn, takingFrame, takenFrame}
 use Rattle.taking.proofs.TakingLaws.{frame-refused, frame-accepted}
@@ -104,19 +100,12 @@ module _ (to from : ℕ) (frame : List ℕ) where
     taken-stays : takenFrame s chosen ≡ takenFrame s frame
     taken-stays = ap₂ (λ (d : PieceData) (x : Answer ℕ). after s (ofPiece d) x) data-stays taking-stays
 
--- the SSID byte of an address that can be written, with another bit
-ssid-with : (bit other number last : ℕ) → number < 16 → last < 2
-    → bit * 128 + 0x60 + number * 2 + last ≡ bit * 128 + (other * 128 + 0x60 + number * 2 + last) % 128
-ssid-with bit other number last n l = omega arith
-
+-- a request's frame is its head and what is behind it
 written : (to from : ℕ) (head : Head) (asks : Asks) (number : ℕ) (holes : List Hole)
     → (isWritable (head .destination) && isWritable (head .source)) ≡ true
     → requestFrame (headWith to from head) asks number holes ≡ frameWith to from (requestFrame head asks number holes)
-unfolding requestFrame headBytes
-written to from head asks number holes w =
-    let d = number-of-writable (head .destination) (and-left _ (isWritable (head .source)) w) in
-    let s = number-of-writable (head .source) (and-right (isWritable (head .destination)) _ w) in
-    rw (ssid-with to (head .destination .bit7) (head .destination .number) 0 d (omega arith), ssid-with from (head .source .bit7) (head .source .number) 1 s (omega arith)) refl
+unfolding requestFrame
+written to from head asks number holes w = written-with to from (head .destination) (head .source) fileProtocol (information asks number holes) w
 
 pub only-the-bits : OnlyTheBits
 only-the-bits = record {

@@ -2,32 +2,27 @@
 -- Assumes nothing.
 use mathlib.Core.List.{List, [], _∷_, _++_}
 use Prim.Native.Nat.{ℕ}
-use lib.ListN.{set, replicate}
-use Rattle.ax25.specs.Examples.{qstBytes, uosat5Bytes}
+use lib.ListN.{replicate}
+use Rattle.ax25.specs.Examples.{uosat5Bytes, qstBytes, ssids}
 use Rattle.remainder.specs.Check.{withCheck}
-use Rattle.request.specs.Writing.{Wanted}
 use Rattle.taking.specs.Examples.{front}
 use Rattle.station.specs.Exports.{TakesOut}
 use Rattle.station.specs.FrameExports.{PieceOut}
 use Rattle.station.specs.RequestExports.{headTold, FillsOut, StartsOut, RequestOut}
-use Rattle.station.specs.BoundaryCases.{va3sflNumber, uosat5Number, eighth, threeBytes, counted, askedHead, requestLent}
-
--- bytes with others at the places of the two SSID bytes
-abbrev pub ssids : ℕ → ℕ → List ℕ → List ℕ
-ssids to from s = set (set s 6 to) 13 from
+use Rattle.station.specs.BoundaryCases.{va3sflNumber, uosat5Number, eighth, threeBytes, counted, asked, askedHead, requestLent}
 
 -- a piece from UOSAT5-11 to VA3SFL-0 with two SSID bytes is read, with these bits
 abbrev pub PieceWith : ℕ → ℕ → ℕ → ℕ → Type 0
 PieceWith to from bit bit′ =
     PieceOut (ssids to from threeBytes) (replicate 7 9) 0 (eighth bit va3sflNumber ∷ eighth bit′ uosat5Number ∷ 0x01020304 ∷ 5 ∷ 0x060708 ∷ 25 ∷ 3 ∷ [])
 
--- .. and one is taken in as `front` is
-abbrev pub TakenWith : ℕ → ℕ → Type 0
-TakenWith to from =
-    TakesOut 7 20 (ssids to from front) (counted 9 (replicate 4 0) (replicate 21 9)) 0
+-- a frame is taken in as `front` is
+abbrev pub TakenAlike : List ℕ → Type 0
+TakenAlike frame =
+    TakesOut 7 20 frame (counted 9 (replicate 4 0) (replicate 21 9)) 0
     (counted 4 (0x0F ∷ 0 ∷ 0 ∷ 0 ∷ []) (0x41 ∷ 0x42 ∷ 0x43 ∷ 0x44 ∷ replicate 17 9))
 
--- a request of UOSAT5-11 by VA3SFL-0, for the start and for one hole, is written with two bits, and read with them
+-- a request of UOSAT5-11 by VA3SFL-0 for the start is written with two bits, and one for a hole is written and read with them
 abbrev pub startFrame : ℕ → ℕ → List ℕ
 startFrame to from = ssids to from askedHead ++ 0x10 ∷ 0x07 ∷ 0x00 ∷ 0x00 ∷ 0x00 ∷ 0xF4 ∷ 0x00 ∷ []
 
@@ -37,17 +32,9 @@ StartWith to from bit bit′ = StartsOut (headTold (eighth bit uosat5Number) (ei
 abbrev pub holeFrame : ℕ → ℕ → List ℕ
 holeFrame to from = ssids to from askedHead ++ 0x11 ∷ 0x07 ∷ 0x00 ∷ 0x00 ∷ 0x00 ∷ 0xF4 ∷ 0x00 ∷ 0x04 ∷ 0x00 ∷ 0x00 ∷ 0x10 ∷ 0x00 ∷ []
 
-abbrev pub wantedWith : ℕ → ℕ → Wanted
-wantedWith bit bit′ = record {
-  head = headTold (eighth bit uosat5Number) (eighth bit′ va3sflNumber);
-  number = 7;
-  length = 20;
-  map = 0x0F ∷ 0x00 ∷ 0x00 ∷ [];
-}
-
 abbrev pub FillWith : ℕ → ℕ → ℕ → ℕ → Type 0
 FillWith to from bit bit′ =
-    FillsOut (wantedWith bit bit′) 0 requestLent 0 (record { count = 1; end = 20; target = holeFrame to from ++ 9 ∷ 9 ∷ [] })
+    FillsOut (asked (eighth bit uosat5Number) (eighth bit′ va3sflNumber)) 0 requestLent 0 (record { count = 1; end = 20; target = holeFrame to from ++ 9 ∷ 9 ∷ [] })
     × RequestOut (holeFrame to from) (replicate 5 9) 0 (eighth bit uosat5Number ∷ eighth bit′ va3sflNumber ∷ 0x11 ∷ 7 ∷ 1 ∷ [])
 
 -- a piece as Direwolf sends it, from UOSAT5-11 to QST-1, both bits set: ABCD of file 7 at 0
@@ -66,11 +53,10 @@ pub record BitCases : Type 0 where
   pub piece-bit-6-clear : PieceOut (ssids 0xA0 0x77 threeBytes) (replicate 7 9) 2 (replicate 7 9)
   pub piece-bit-5-clear : PieceOut (ssids 0xC0 0x77 threeBytes) (replicate 7 9) 2 (replicate 7 9)
   pub direwolf-read : PieceOut fromDirewolf (replicate 7 9) 0 (0x0101202020545351 ∷ 0x010B355441534F55 ∷ 7 ∷ 0 ∷ 0 ∷ 25 ∷ 4 ∷ [])
-  pub direwolf-taken : TakesOut 7 20 fromDirewolf (counted 9 (replicate 4 0) (replicate 21 9)) 0
-      (counted 4 (0x0F ∷ 0 ∷ 0 ∷ 0 ∷ []) (0x41 ∷ 0x42 ∷ 0x43 ∷ 0x44 ∷ replicate 17 9))
-  pub taken-destination : TakenWith 0xE0 0x77
-  pub taken-source : TakenWith 0x60 0xF7
-  pub taken-both : TakenWith 0xE0 0xF7
+  pub direwolf-taken : TakenAlike fromDirewolf
+  pub taken-destination : TakenAlike (ssids 0xE0 0x77 front)
+  pub taken-source : TakenAlike (ssids 0x60 0xF7 front)
+  pub taken-both : TakenAlike (ssids 0xE0 0xF7 front)
   pub start-destination : StartWith 0xF6 0x61 1 0
   pub start-source : StartWith 0x76 0xE1 0 1
   pub start-both : StartWith 0xF6 0xE1 1 1

@@ -67,10 +67,11 @@ headerLent = record { size = 9; values = replicate 12 9 }
 abbrev pub counted : ℕ → List ℕ → List ℕ → Counted
 counted n map buffer = record { new = n; map = map; buffer = buffer }
 
--- a request of UOSAT5-11 by VA3SFL-0
-abbrev pub asked : ℕ → Wanted
-asked destination = record { head = headTold destination va3sflNumber; number = 7; length = 20; map = 0x0F ∷ 0x00 ∷ 0x00 ∷ [] }
+-- a request of one address by another, as numbers
+abbrev pub asked : ℕ → ℕ → Wanted
+asked destination source = record { head = headTold destination source; number = 7; length = 20; map = 0x0F ∷ 0x00 ∷ 0x00 ∷ [] }
 
+-- its head, of UOSAT5-11 by VA3SFL-0
 abbrev pub askedHead : List ℕ
 askedHead = 0xAA ∷ 0x9E ∷ 0xA6 ∷ 0x82 ∷ 0xA8 ∷ 0x6A ∷ 0x76 ∷ 0xAC ∷ 0x82 ∷ 0x66 ∷ 0xA6 ∷ 0x8C ∷ 0x98 ∷ 0x61 ∷ 0x03 ∷ 0xBB ∷ []
 
@@ -123,9 +124,9 @@ pub record BoundaryCases : Type 0 where
   pub header-broken : HeaderOut (set fileStart 70 0x84) 0xAE67 headerLent 8 headerLent
   pub extension-out : extensionNumber (record { c0 = 1; c1 = 2; c2 = 3 }) ≡ 0x030201
   pub no-upload : (uploadedOf Absent ≡ 0) × (uploadOf Absent ≡ 0)
-  pub write-request-out : FillsOut (asked uosat5Number) 0 requestLent 0
+  pub write-request-out : FillsOut (asked uosat5Number va3sflNumber) 0 requestLent 0
       (record { count = 1; end = 20; target = askedHead ++ 0x11 ∷ 0x07 ∷ 0x00 ∷ 0x00 ∷ 0x00 ∷ 0xF4 ∷ 0x00 ∷ 0x04 ∷ 0x00 ∷ 0x00 ∷ 0x10 ∷ 0x00 ∷ 9 ∷ 9 ∷ [] })
-  pub write-request-refused : FillsOut (asked (eighth 2 uosat5Number)) 0 requestLent 2 requestLent
+  pub write-request-refused : FillsOut (asked (eighth 2 uosat5Number) va3sflNumber) 0 requestLent 2 requestLent
   pub write-start-out : StartsOut (headTold uosat5Number va3sflNumber) 7 (replicate 24 9) 0
       (askedHead ++ 0x10 ∷ 0x07 ∷ 0x00 ∷ 0x00 ∷ 0x00 ∷ 0xF4 ∷ 0x00 ∷ 9 ∷ [])
   pub read-request-out : RequestOut twoHoles (replicate 5 9) 0 (uosat5Number ∷ va3sflNumber ∷ 0x11 ∷ 7 ∷ 2 ∷ [])
