@@ -13,14 +13,9 @@ use lib.Bits.{bitXor, xor-lt}
 use borrow.Author.Tests.{le-leb, eqb-true, eq-eqb}
 use Rattle.remainder.specs.Remainder.{polynomial, withBit, withBits, messageBits, remainderOf}
 use Rattle.remainder.specs.Check.{checkRight, withCheck}
+use Rattle.remainder.proofs.Steps.{bit-below}
 
--- one bit more, and all bits of a message: the remainder stays below 2^16
-bit-below : (c bit : ℕ) → c < 2 ^ 16 → bit < 2 → withBit c bit < 2 ^ 16
-unfolding withBit
-bit-below c bit h l =
-    let x : bitXor (c / 2 ^ 15) bit < 2 ^ 1 = xor-lt 1 (c / 2 ^ 15) bit (omega arith) l in
-    xor-lt 16 (bitXor (c / 2 ^ 15) bit * polynomial) (c * 2 % 2 ^ 16) (omega arith) (omega arith)
-
+-- all bits of a message: the remainder stays below 2^16
 bits-below : (c : ℕ) (s : List ℕ) → c < 2 ^ 16 → withBits c (messageBits s) < 2 ^ 16
 unfolding withBits messageBits
 bits-below c [] h = h

@@ -1,281 +1,25 @@
 // The check of an information field (01, "Frame"): the remainder of its bytes by the polynomial of
-// 16, 12, 5 and 0, start 0, most significant bit first, worked out from a constant list of 256
-// remainders, one for each byte value.
+// 16, 12, 5 and 0, start 0, most significant bit first, worked out by shifts and exclusive-or (02,
+// C-13): a short message byte by byte, a longer one eight bytes at a step.
 //
-// Its contracts cite `specs/Remainder.antt`, where the remainder is taken bit by bit,
-// `specs/ByteList.antt`, the constant list's rule, and `specs/Check.antt`.
+// Its contracts cite `specs/Remainder.antt`, where the remainder is taken bit by bit, and
+// `specs/Check.antt`; what private functions promise each other cites `specs/Inner.antt`.
 ghost use mathlib.Core.Path.{_≡_};
-ghost use Prim.Native.Nat.{_+_, _*_, _%_};
+ghost use Prim.Native.Nat.{_+_, _*_, _/_, _^_, _≤_, _<_};
+ghost use lib.ListN.{length};
+ghost use lib.Bits.{bitXor};
 ghost use Rattle.remainder.specs.Remainder.{withBits, bitsOf, remainderOf};
-ghost use Rattle.remainder.specs.ByteList.{remainderList};
 ghost use Rattle.remainder.specs.Check.{checkRight};
-ghost use Rattle.remainder.specs.Inner.{inTwo};
-
-// The remainder of each byte value.
-const REMAINDERS: [u16; 256] = [
-    0x0000,
-    0x1021,
-    0x2042,
-    0x3063,
-    0x4084,
-    0x50A5,
-    0x60C6,
-    0x70E7,
-    0x8108,
-    0x9129,
-    0xA14A,
-    0xB16B,
-    0xC18C,
-    0xD1AD,
-    0xE1CE,
-    0xF1EF,
-    0x1231,
-    0x0210,
-    0x3273,
-    0x2252,
-    0x52B5,
-    0x4294,
-    0x72F7,
-    0x62D6,
-    0x9339,
-    0x8318,
-    0xB37B,
-    0xA35A,
-    0xD3BD,
-    0xC39C,
-    0xF3FF,
-    0xE3DE,
-    0x2462,
-    0x3443,
-    0x0420,
-    0x1401,
-    0x64E6,
-    0x74C7,
-    0x44A4,
-    0x5485,
-    0xA56A,
-    0xB54B,
-    0x8528,
-    0x9509,
-    0xE5EE,
-    0xF5CF,
-    0xC5AC,
-    0xD58D,
-    0x3653,
-    0x2672,
-    0x1611,
-    0x0630,
-    0x76D7,
-    0x66F6,
-    0x5695,
-    0x46B4,
-    0xB75B,
-    0xA77A,
-    0x9719,
-    0x8738,
-    0xF7DF,
-    0xE7FE,
-    0xD79D,
-    0xC7BC,
-    0x48C4,
-    0x58E5,
-    0x6886,
-    0x78A7,
-    0x0840,
-    0x1861,
-    0x2802,
-    0x3823,
-    0xC9CC,
-    0xD9ED,
-    0xE98E,
-    0xF9AF,
-    0x8948,
-    0x9969,
-    0xA90A,
-    0xB92B,
-    0x5AF5,
-    0x4AD4,
-    0x7AB7,
-    0x6A96,
-    0x1A71,
-    0x0A50,
-    0x3A33,
-    0x2A12,
-    0xDBFD,
-    0xCBDC,
-    0xFBBF,
-    0xEB9E,
-    0x9B79,
-    0x8B58,
-    0xBB3B,
-    0xAB1A,
-    0x6CA6,
-    0x7C87,
-    0x4CE4,
-    0x5CC5,
-    0x2C22,
-    0x3C03,
-    0x0C60,
-    0x1C41,
-    0xEDAE,
-    0xFD8F,
-    0xCDEC,
-    0xDDCD,
-    0xAD2A,
-    0xBD0B,
-    0x8D68,
-    0x9D49,
-    0x7E97,
-    0x6EB6,
-    0x5ED5,
-    0x4EF4,
-    0x3E13,
-    0x2E32,
-    0x1E51,
-    0x0E70,
-    0xFF9F,
-    0xEFBE,
-    0xDFDD,
-    0xCFFC,
-    0xBF1B,
-    0xAF3A,
-    0x9F59,
-    0x8F78,
-    0x9188,
-    0x81A9,
-    0xB1CA,
-    0xA1EB,
-    0xD10C,
-    0xC12D,
-    0xF14E,
-    0xE16F,
-    0x1080,
-    0x00A1,
-    0x30C2,
-    0x20E3,
-    0x5004,
-    0x4025,
-    0x7046,
-    0x6067,
-    0x83B9,
-    0x9398,
-    0xA3FB,
-    0xB3DA,
-    0xC33D,
-    0xD31C,
-    0xE37F,
-    0xF35E,
-    0x02B1,
-    0x1290,
-    0x22F3,
-    0x32D2,
-    0x4235,
-    0x5214,
-    0x6277,
-    0x7256,
-    0xB5EA,
-    0xA5CB,
-    0x95A8,
-    0x8589,
-    0xF56E,
-    0xE54F,
-    0xD52C,
-    0xC50D,
-    0x34E2,
-    0x24C3,
-    0x14A0,
-    0x0481,
-    0x7466,
-    0x6447,
-    0x5424,
-    0x4405,
-    0xA7DB,
-    0xB7FA,
-    0x8799,
-    0x97B8,
-    0xE75F,
-    0xF77E,
-    0xC71D,
-    0xD73C,
-    0x26D3,
-    0x36F2,
-    0x0691,
-    0x16B0,
-    0x6657,
-    0x7676,
-    0x4615,
-    0x5634,
-    0xD94C,
-    0xC96D,
-    0xF90E,
-    0xE92F,
-    0x99C8,
-    0x89E9,
-    0xB98A,
-    0xA9AB,
-    0x5844,
-    0x4865,
-    0x7806,
-    0x6827,
-    0x18C0,
-    0x08E1,
-    0x3882,
-    0x28A3,
-    0xCB7D,
-    0xDB5C,
-    0xEB3F,
-    0xFB1E,
-    0x8BF9,
-    0x9BD8,
-    0xABBB,
-    0xBB9A,
-    0x4A75,
-    0x5A54,
-    0x6A37,
-    0x7A16,
-    0x0AF1,
-    0x1AD0,
-    0x2AB3,
-    0x3A92,
-    0xFD2E,
-    0xED0F,
-    0xDD6C,
-    0xCD4D,
-    0xBDAA,
-    0xAD8B,
-    0x9DE8,
-    0x8DC9,
-    0x7C26,
-    0x6C07,
-    0x5C64,
-    0x4C45,
-    0x3CA2,
-    0x2C83,
-    0x1CE0,
-    0x0CC1,
-    0xEF1F,
-    0xFF3E,
-    0xCF5D,
-    0xDF7C,
-    0xAF9B,
-    0xBFBA,
-    0x8FD9,
-    0x9FF8,
-    0x6E17,
-    0x7E36,
-    0x4E55,
-    0x5E74,
-    0x2E93,
-    0x3EB2,
-    0x0ED1,
-    0x1EF0,
-];
+ghost use Rattle.remainder.specs.Inner.{withNumber, highFirst, byFourth};
 
 // The remainder of all bytes of s.
 pub fn remainder(s: &[u8]) -> u16
     ensures { λ r. ⌜ r ≡ remainderOf (now (s .entry)) ⌝ }
 {
-    by_list(&REMAINDERS, s)
+    if s.len() < 8 {
+        return by_bytes(s);
+    }
+    by_eights(s)
 }
 
 // Whether the last two bytes of an information field, high byte first, are the remainder of all
@@ -291,47 +35,90 @@ pub fn check_right(information: &[u8]) -> bool
     remainder(&information[..n]) == given
 }
 
-// The remainder of all bytes of s, from the list, which is lent once for them all. It is kept in two parts, the
-// list's entry for the last byte and the byte that moves up beside it: the next entry then waits for the last
-// one alone.
-fn by_list(list: &[u16; 256], s: &[u8]) -> u16
-    requires { ⌜ now list ≡ remainderList ⌝ }
+// The remainder of all bytes of s, one after the other.
+fn by_bytes(s: &[u8]) -> u16
     ensures { λ r. ⌜ r ≡ remainderOf (now (s .entry)) ⌝ }
 {
-    let mut entry: u16 = 0;
-    let mut beside: u8 = 0;
+    let mut c: u16 = 0;
     let mut i = 0;
     while i < s.len() {
-        let next = next_entry(list, entry, beside, s[i]);
-        beside = low_byte(entry);
-        entry = next;
+        c = next_byte(c, s[i]);
         i += 1;
     }
-    together(entry, beside)
+    c
 }
 
-// The entry of the list for one byte more.
-fn next_entry(list: &[u16; 256], entry: u16, beside: u8, b: u8) -> u16
-    requires { ⌜ now list ≡ remainderList ⌝ }
-    ensures { λ r. ⌜ inTwo r (entry % 256) ≡ withBits (inTwo entry beside) (bitsOf b) ⌝ }
+// The remainder after one byte more. The eight bits that leave at the top are the high byte with the
+// byte laid over it; q has a bit for each time that the polynomial is taken off.
+fn next_byte(c: u16, b: u8) -> u16
+    ensures { λ r. ⌜ r ≡ withBits c (bitsOf b) ⌝ }
 {
-    let high = (entry / 256) as u8;
-    let at = (high ^ (beside ^ b)) as usize;
-    list[at]
+    let top = (c >> 8) ^ (b as u16);
+    let q = top ^ (top >> 4);
+    (c << 8) ^ (q << 12) ^ (q << 5) ^ q
 }
 
-// The low byte of a number.
-fn low_byte(n: u16) -> u8
-    ensures { λ r. ⌜ r ≡ n % 256 ⌝ }
+// The remainder of all bytes of s, eight at a step. Zero bits in front of a message change nothing, since
+// the start is 0: so the bytes that are left over come first, as one number.
+fn by_eights(s: &[u8]) -> u16
+    ensures { λ r. ⌜ r ≡ remainderOf (now (s .entry)) ⌝ }
 {
-    (n % 256) as u8
+    let mut i = s.len() % 8;
+    let mut wide = number_at(s, 0, i);
+    while i < s.len() {
+        wide = next_eight(wide, number_at(s, i, 8));
+        i += 8;
+    }
+    narrow(wide)
 }
 
-// The remainder whose parts are an entry and the byte beside it.
-fn together(entry: u16, beside: u8) -> u16
-    ensures { λ r. ⌜ r ≡ inTwo entry beside ⌝ }
+// The number of n bytes of s from a place on, the first the most significant.
+fn number_at(s: &[u8], at: usize, n: usize) -> u64
+    requires { ⌜ (n ≤ 8) × (at + n ≤ length (now s)) ⌝ }
+    ensures { λ r. ⌜ r ≡ highFirst n (now (s .entry)) at ⌝ }
 {
-    entry ^ ((beside as u16) * 256)
+    let mut number: u64 = 0;
+    let mut k = 0;
+    while k < n {
+        number = with_byte(number, s[at + k]);
+        k += 1;
+    }
+    number
+}
+
+// A number with a byte behind it.
+fn with_byte(number: u64, b: u8) -> u64
+    requires { ⌜ number < 2 ^ 56 ⌝ }
+    ensures { λ r. ⌜ r ≡ number * 256 + b ⌝ }
+{
+    (number << 8) | (b as u64)
+}
+
+// A number of 64 bits that leaves the remainder of a longer one: `wide`, and eight bytes behind it. It is
+// the remainder by the fourth power of the polynomial, of 64, 48, 20 and 0.
+fn next_eight(wide: u64, eight: u64) -> u64
+    ensures { λ r. ⌜ withNumber 64 0 r ≡ withNumber 64 (withNumber 64 0 wide) eight ⌝ }
+{
+    let q = by_fourth(wide);
+    q ^ (q << 20) ^ (q << 48) ^ eight
+}
+
+// The remainder of a number of 64 bits.
+fn narrow(wide: u64) -> u16
+    ensures { λ r. ⌜ r ≡ withNumber 64 0 wide ⌝ }
+{
+    let fourth = by_fourth(wide);
+    let second = fourth ^ (fourth >> 8) ^ (fourth >> 22) ^ (fourth >> 32);
+    let q = second ^ (second >> 4) ^ (second >> 11) ^ (second >> 16);
+    ((q ^ (q << 5) ^ (q << 12)) % 65536) as u16
+}
+
+// How often the fourth power of the polynomial is taken off a number with 64 zero bits behind it.
+fn by_fourth(x: u64) -> u64
+    ensures { λ r. ⌜ r ≡ byFourth x ⌝ }
+{
+    let y = x ^ (x >> 32);
+    y ^ (y >> 16) ^ (y >> 44)
 }
 
 // The number of two bytes, the high one first.
