@@ -1,6 +1,6 @@
 -- Laws of the check: the remainder has 16 bits, and a message has one right check, its remainder, high byte first.
 -- Assumes nothing.
-use mathlib.Core.Path.{_≡_, sym, ap, _∙_}
+use mathlib.Core.Path.{_≡_, sym, ap, subst, _∙_}
 use mathlib.Core.Bool.{true}
 use mathlib.Core.List.{List, [], _∷_, _++_}
 use Prim.Native.Nat.{ℕ, _+_, _*_, _/_, _%_, _-_, _^_, _<_}
@@ -9,19 +9,16 @@ use native.Mathlib.Omega.{arith}
 use lib.Dec.{leb, eqb}
 use lib.ListN.{length, getD, length-append}
 use lib.Seq.{take-append-seam, getD-append-add}
-use lib.Bits.{bitXor, xor-lt}
 use borrow.Author.Tests.{le-leb, eqb-true, eq-eqb}
-use Rattle.remainder.specs.Remainder.{polynomial, withBit, withBits, messageBits, remainderOf}
+use Rattle.remainder.specs.Remainder.{withBits, bitsOf, messageBits, remainderOf}
 use Rattle.remainder.specs.Check.{checkRight, withCheck}
-use Rattle.remainder.proofs.Steps.{bit-below}
+use Rattle.remainder.proofs.Steps.{number-below, byte-bits}
 
 -- all bits of a message: the remainder stays below 2^16
 bits-below : (c : ℕ) (s : List ℕ) → c < 2 ^ 16 → withBits c (messageBits s) < 2 ^ 16
 unfolding withBits messageBits
 bits-below c [] h = h
-bits-below c (b ∷ s) h =
-    let next : (d bit : ℕ) → d < 2 ^ 16 → withBit d (bit % 2) < 2 ^ 16 = λ d bit k. bit-below d (bit % 2) k (omega arith) in
-    bits-below _ s (next _ b (next _ (b / 2) (next _ (b / 4) (next _ (b / 8) (next _ (b / 16) (next _ (b / 32) (next _ (b / 64) (next c (b / 128) h))))))))
+bits-below c (b ∷ s) h = bits-below (withBits c (bitsOf b)) s (subst (λ (d : ℕ). d < 2 ^ 16) (byte-bits c b) (number-below 8 c b h))
 
 pub remainder-below : (s : List ℕ) → remainderOf s < 2 ^ 16
 unfolding remainderOf

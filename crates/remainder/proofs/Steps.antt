@@ -1,19 +1,17 @@
--- The remainder after the bits of a number: it passes through exclusive-or, so the steps by shifts need to agree with it at powers
--- of two alone.
+-- The remainder after the bits of a number: below 2^16, through exclusive-or, and one number after another.
 -- Assumes nothing.
-use mathlib.Core.Path.{_≡_, refl, sym, ap, ap₂, _∙_}
+use mathlib.Core.Path.{_≡_, refl, ap, ap₂, _∙_}
 use Prim.Native.Nat.{ℕ, zero, suc, _+_, _*_, _/_, _%_, _^_, _<_}
 use native.Mathlib.Nat.{suc-add, zero-add, div-div-eq-div-mul}
 use native.Mathlib.Omega.{arith}
-use lib.Pow.{pow-pos}
 use lib.Bits.{bitXor, xor-shr, xor-mod, xor-lt, block-half, block-odd}
 use Rattle.remainder.specs.Remainder.{polynomial, withBit, withBits, bitsOf}
-use Rattle.remainder.specs.Inner.{withNumber, byFourth}
-use Rattle.remainder.proofs.Xor.{xor-four}
-use Rattle.remainder.proofs.Linear.{Linear, lowest, right, left, both, after, agree}
+use Rattle.remainder.specs.Inner.{withNumber}
+use Rattle.remainder.proofs.Xor.{xor-four, xor-shl}
+use Rattle.remainder.proofs.Linear.{Linear, at-zero}
 
 -- one bit more: the remainder stays below 2^16
-pub bit-below : (c bit : ℕ) → c < 2 ^ 16 → bit < 2 → withBit c bit < 2 ^ 16
+bit-below : (c bit : ℕ) → c < 2 ^ 16 → bit < 2 → withBit c bit < 2 ^ 16
 unfolding withBit
 bit-below c bit h l =
     let x : bitXor (c / 2 ^ 15) bit < 2 ^ 1 = xor-lt 1 (c / 2 ^ 15) bit (omega arith) l in
@@ -37,7 +35,8 @@ bit-linear c d a b hc hd ha hb =
     ap (λ (n : ℕ). bitXor n (bitXor a b)) (xor-shr c d 15) ∙ xor-four (c / 2 ^ 15) (d / 2 ^ 15) a b in
     let taken : bitXor (bitXor c d / 2 ^ 15) (bitXor a b) * polynomial ≡ bitXor (p * polynomial) (q * polynomial) =
     ap (λ (n : ℕ). n * polynomial) top ∙ off p q (xor-lt 1 (c / 2 ^ 15) a (omega arith) ha) (xor-lt 1 (d / 2 ^ 15) b (omega arith) hb) in
-    ap₂ bitXor taken (left 16 1 .through c d) ∙ xor-four (p * polynomial) (q * polynomial) (c * 2 % 2 ^ 16) (d * 2 % 2 ^ 16)
+    let up : bitXor c d * 2 % 2 ^ 16 ≡ bitXor (c * 2 % 2 ^ 16) (d * 2 % 2 ^ 16) = ap (λ (n : ℕ). n % 2 ^ 16) (xor-shl 1 c d) ∙ xor-mod (c * 2) (d * 2) 16 in
+    ap₂ bitXor taken up ∙ xor-four (p * polynomial) (q * polynomial) (c * 2 % 2 ^ 16) (d * 2 % 2 ^ 16)
 
 -- all bits of a number: below 2^16, and through exclusive-or
 pub number-below : (n c x : ℕ) → c < 2 ^ 16 → withNumber n c x < 2 ^ 16
@@ -52,8 +51,15 @@ number-linear (suc n) c d x y hc hd =
     ap₂ withBit (ap (withNumber n (bitXor c d)) (xor-shr x y 1) ∙ number-linear n c d (x / 2) (y / 2) hc hd) (xor-mod x y 1)
     ∙ bit-linear (withNumber n c (x / 2)) (withNumber n d (y / 2)) (x % 2) (y % 2) (number-below n c (x / 2) hc) (number-below n d (y / 2) hd) (omega arith) (omega arith)
 
-pub from-zero : (n : ℕ) → Linear (withNumber n 0)
-from-zero n = record { through = λ x y. number-linear n 0 0 x y (omega arith) (omega arith) }
+-- from 16 bits on, and from 0 on
+pub bits-linear : (n : ℕ) → Linear (λ c x. withNumber n (c % 2 ^ 16) x)
+bits-linear n = record {
+  through = λ c d x y.
+      ap (λ (z : ℕ). withNumber n z (bitXor x y)) (xor-mod c d 16) ∙ number-linear n (c % 2 ^ 16) (d % 2 ^ 16) x y (omega arith) (omega arith);
+}
+
+pub none-of-none : (n : ℕ) → withNumber n 0 0 ≡ 0
+none-of-none n = at-zero (bits-linear n)
 
 -- a number and what stands behind it, one after the other
 pub number-join : (n k c x y : ℕ) → y < 2 ^ n → withNumber (n + k) c (x * 2 ^ n + y) ≡ withNumber n (withNumber k c x) y
@@ -62,12 +68,10 @@ number-join zero k c x y h =
     let e : x * 2 ^ 0 + y ≡ x = omega arith in
     ap₂ (λ (m z : ℕ). withNumber m c z) (zero-add k) e
 number-join (suc n) k c x y h =
+    let half : y / 2 < 2 ^ n = omega arith in
     ap (λ (m : ℕ). withNumber m c (x * 2 ^ suc n + y)) (suc-add n k)
     ∙ ap₂ (λ (z bit : ℕ). withBit (withNumber (n + k) c z) bit) (block-half x n y) (block-odd x n y)
-    ∙ ap (λ (d : ℕ). withBit d (y % 2)) (number-join n k c x (y / 2) (half n y h))
-  where
-    half : (n y : ℕ) → y < 2 ^ suc n → y / 2 < 2 ^ n
-    half n y h = omega arith
+    ∙ ap (λ (d : ℕ). withBit d (y % 2)) (number-join n k c x (y / 2) half)
 
 -- the bits of a byte are those of a number
 pub byte-bits : (c b : ℕ) → withNumber 8 c b ≡ withBits c (bitsOf b)

@@ -1,4 +1,5 @@
 pub mod Remainder
 pub mod Check
 pub mod Figure
+pub mod Shifts
 pub mod Inner

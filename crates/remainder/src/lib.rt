@@ -1,16 +1,16 @@
 // The check of an information field (01, "Frame"): the remainder of its bytes by the polynomial of
-// 16, 12, 5 and 0, start 0, most significant bit first, worked out by shifts and exclusive-or (02,
-// C-13): a short message byte by byte, a longer one eight bytes at a step.
+// 16, 12, 5 and 0, start 0, most significant bit first. Each step is worked out by shifts and
+// exclusive-or (02, C-13): a short message byte by byte, a longer one eight bytes at a step.
 //
 // Its contracts cite `specs/Remainder.antt`, where the remainder is taken bit by bit, and
-// `specs/Check.antt`; what private functions promise each other cites `specs/Inner.antt`.
+// `specs/Check.antt`; private functions promise each other what `specs/Inner.antt` has.
 ghost use mathlib.Core.Path.{_≡_};
-ghost use Prim.Native.Nat.{_+_, _*_, _/_, _^_, _≤_, _<_};
+ghost use Prim.Native.Nat.{_+_, _*_, _^_, _≤_, _<_};
 ghost use lib.ListN.{length};
-ghost use lib.Bits.{bitXor};
 ghost use Rattle.remainder.specs.Remainder.{withBits, bitsOf, remainderOf};
 ghost use Rattle.remainder.specs.Check.{checkRight};
-ghost use Rattle.remainder.specs.Inner.{withNumber, highFirst, byFourth};
+ghost use Rattle.remainder.specs.Shifts.{shifted, byFourth};
+ghost use Rattle.remainder.specs.Inner.{withNumber, highFirst};
 
 // The remainder of all bytes of s.
 pub fn remainder(s: &[u8]) -> u16
@@ -49,17 +49,18 @@ fn by_bytes(s: &[u8]) -> u16
 }
 
 // The remainder after one byte more. The eight bits that leave at the top are the high byte with the
-// byte laid over it; q has a bit for each time that the polynomial is taken off.
+// new byte laid over it; q has a bit for each time that the polynomial is taken off.
 fn next_byte(c: u16, b: u8) -> u16
     ensures { λ r. ⌜ r ≡ withBits c (bitsOf b) ⌝ }
 {
     let top = (c >> 8) ^ (b as u16);
     let q = top ^ (top >> 4);
-    (c << 8) ^ (q << 12) ^ (q << 5) ^ q
+    (c << 8) ^ ((q << 12) ^ (q << 5) ^ q)
 }
 
-// The remainder of all bytes of s, eight at a step. Zero bits in front of a message change nothing, since
-// the start is 0: so the bytes that are left over come first, as one number.
+// The remainder of all bytes of s, eight at a step. `wide` is a number of 64 bits with the remainder of
+// the bytes so far. The start is 0, so zero bits in front of a message change nothing, and what is
+// beyond whole eights can come first, as a number.
 fn by_eights(s: &[u8]) -> u16
     ensures { λ r. ⌜ r ≡ remainderOf (now (s .entry)) ⌝ }
 {
@@ -94,8 +95,8 @@ fn with_byte(number: u64, b: u8) -> u64
     (number << 8) | (b as u64)
 }
 
-// A number of 64 bits that leaves the remainder of a longer one: `wide`, and eight bytes behind it. It is
-// the remainder by the fourth power of the polynomial, of 64, 48, 20 and 0.
+// A number of 64 bits with the remainder of `wide` and the eight bytes behind it: what is left of these
+// 128 bits by the fourth power of the polynomial, of 64, 48, 20 and 0.
 fn next_eight(wide: u64, eight: u64) -> u64
     ensures { λ r. ⌜ withNumber 64 0 r ≡ withNumber 64 (withNumber 64 0 wide) eight ⌝ }
 {
@@ -103,7 +104,8 @@ fn next_eight(wide: u64, eight: u64) -> u64
     q ^ (q << 20) ^ (q << 48) ^ eight
 }
 
-// The remainder of a number of 64 bits.
+// The remainder of a number of 64 bits. From how often the fourth power is taken off follows how often
+// the second is, and from that how often the polynomial itself is.
 fn narrow(wide: u64) -> u16
     ensures { λ r. ⌜ r ≡ withNumber 64 0 wide ⌝ }
 {
@@ -113,9 +115,10 @@ fn narrow(wide: u64) -> u16
     ((q ^ (q << 5) ^ (q << 12)) % 65536) as u16
 }
 
-// How often the fourth power of the polynomial is taken off a number with 64 zero bits behind it.
+// How often the fourth power of the polynomial is taken off a number with 64 zero bits behind it, a bit
+// for each time.
 fn by_fourth(x: u64) -> u64
-    ensures { λ r. ⌜ r ≡ byFourth x ⌝ }
+    ensures { λ r. ⌜ r ≡ shifted byFourth x 0 ⌝ }
 {
     let y = x ^ (x >> 32);
     y ^ (y >> 16) ^ (y >> 44)

@@ -1,7 +1,7 @@
 -- `remainder::by_eights` meets its contract. The loop's invariant: what is left of the message is whole eights, and from the
 -- remainder of the number so far on it gives the whole remainder.
 -- Assumes nothing.
-use mathlib.Core.Path.{_≡_, refl, sym, ap, _∙_}
+use mathlib.Core.Path.{_≡_, sym, ap, _∙_}
 use Prim.Native.Nat.{ℕ, _+_, _-_, _%_, _≤_}
 use native.Mathlib.Omega.{arith}
 use borrow.Author.Needs.{needs}

@@ -3,7 +3,8 @@
 use mathlib.Core.Path.{ap, _∙_}
 use Prim.Native.Nat.{ℕ}
 use borrow.Author.Needs.{needs}
-use Rattle.remainder.proofs.Shifts.{narrowed, narrow-agrees}
+use Rattle.remainder.specs.Shifts.{shifted, narrowStep}
+use Rattle.remainder.proofs.Shifts.{narrow-step}
 use Rattle.remainder.proofs.narrow.Statement.{statement}
 use Rattle.remainder.proofs.narrow.Tie as tie
 
@@ -14,7 +15,7 @@ cast-result : tie.Need-cast-result
 cast-result c = search needs
 
 returns : tie.Need-returns
-returns c = ap narrowed (c .by-fourth .ensures) ∙ narrow-agrees (c .before .args .wide) (c .before .fits .wide .fits)
+returns c = ap (λ (q : ℕ). shifted narrowStep q 0) (c .by-fourth .ensures) ∙ narrow-step (c .before .args .wide) (c .before .fits .wide .fits)
 
 pub narrow-spec : {M : Type 1} → statement M
 narrow-spec = tie.close (tie.spec by-fourth-requires cast-result returns)
