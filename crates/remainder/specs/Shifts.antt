@@ -25,9 +25,11 @@ shifted (left w k) x y = x * 2 ^ k % 2 ^ w
 shifted (s ⊕ t) x y = bitXor (shifted s x y) (shifted t x y)
 shifted (s then t) x y = shifted t (shifted s x y) y
 
--- a remainder, and the byte beside it after it: what leaves at the top, how often the polynomial is taken off, and what that gives
+-- a remainder, and after it the byte beside it: from what leaves at the top to how often the polynomial is taken off, and to what is left
 abbrev pub byteStep : Shifts
-byteStep = left 16 8 ⊕ (right 8 ⊕ other then itself ⊕ right 4 then left 16 12 ⊕ left 16 5 ⊕ itself)
+byteStep =
+    let q = right 8 ⊕ other then itself ⊕ right 4 in
+    left 16 8 ⊕ (q then left 16 12) ⊕ (q then left 16 5) ⊕ q
 
 -- how often the fourth power of the polynomial, of 64, 48, 20 and 0, is taken off a number with 64 zero bits behind it
 abbrev pub byFourth : Shifts

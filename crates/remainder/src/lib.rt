@@ -55,7 +55,7 @@ fn next_byte(c: u16, b: u8) -> u16
 {
     let top = (c >> 8) ^ (b as u16);
     let q = top ^ (top >> 4);
-    (c << 8) ^ ((q << 12) ^ (q << 5) ^ q)
+    (c << 8) ^ (q << 12) ^ (q << 5) ^ q
 }
 
 // The remainder of all bytes of s, eight at a step. `wide` is a number of 64 bits with the remainder of

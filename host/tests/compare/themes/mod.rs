@@ -12,6 +12,7 @@ pub mod opens;
 pub mod pieces;
 pub mod receptions;
 pub mod records;
+pub mod remainders;
 pub mod requests_read;
 pub mod shared;
 pub mod stations;
