@@ -1,5 +1,6 @@
 //! Says where the proved library is: `libstation.a` in the folder that `THOWELDECK_LIBRARY` names, or else in
-//! `target/staticlib` of the project, where `./tour` puts it. Without it `src/lib.rs` ends the build with one line.
+//! `target/staticlib` of the project, where `./tour` puts it. Without it `src/lib.rs` ends the build with one line; with it the
+//! tests find it by `THOWELDECK_LINKED`.
 use std::env;
 use std::path::{Path, PathBuf};
 
@@ -11,6 +12,7 @@ fn main() {
     match folder() {
         Ok(folder) => {
             println!("cargo:rustc-link-search=native={}", folder.display());
+            println!("cargo:rustc-env=THOWELDECK_LINKED={}", folder.join("libstation.a").display());
             println!("cargo:rustc-link-lib=static=station");
         }
         Err(line) => {

@@ -3,8 +3,8 @@
 //! `cargo bench` prints a table, `cargo bench -- --markdown` the same in Markdown; further words choose the
 //! operations, as in `cargo bench -- take join`.
 //!
-//! Every input is first given to both, with every SSID and messages of every length, and the run stops with an error where an
-//! answer or a lent byte differs.
+//! Every input is first given to both, and so are every SSID and messages of each length, and the run stops with an error where
+//! an answer or a lent byte differs.
 //! Then both are timed in turns, over many rounds, and each time is the **minimum** over the rounds, less the
 //! clock's own time. The ratio is plain Rust's time divided by the library's: from 1.00 on the library is at
 //! least as fast. Both are real calls: the library's through `thoweldeck::boundary`, as a host makes them.

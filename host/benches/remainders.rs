@@ -1,5 +1,5 @@
-//! That both sides give the same remainder, before they are measured: of every length of information, and of each single bit in
-//! it. Nothing is timed.
+//! That both sides give the same remainder, before they are measured: of messages of each length up to the longest content, and of
+//! each single bit in one. Nothing is timed.
 use crate::inputs;
 use crate::sides::{Library, Plain, Side};
 

@@ -1,5 +1,5 @@
--- What passes through exclusive-or: two functions of two numbers that do, and agree at the powers of two, agree everywhere. All that is
--- put together from shifts and exclusive-or does.
+-- What passes through exclusive-or. Two functions of two numbers that do, and agree at the powers of two below 2^n, agree at all numbers
+-- below 2^n. All that is put together from shifts and exclusive-or does.
 -- Assumes nothing.
 use mathlib.Core.Path.{_≡_, refl, sym, ap, ap₂, subst, _∙_}
 use Prim.Native.Nat.{ℕ, zero, suc, _*_, _/_, _%_, _^_, _<_}
@@ -23,12 +23,12 @@ exchanged h = record { through = λ x x′ y y′. h .through y y′ x x′ }
 pub at-zero : {f : ℕ → ℕ → ℕ} → Linear f → f 0 0 ≡ 0
 at-zero {f} h = h .through 0 0 0 0 ∙ xor-self (f 0 0)
 
--- one that agrees at a power of two agrees at that power or nothing
-at-bit : {f g : ℕ → ℕ → ℕ} → Linear f → Linear g → (p : ℕ) → f p 0 ≡ g p 0 → (bit : ℕ) → bit < 2 → f (bit * p) 0 ≡ g (bit * p) 0
-at-bit {f} {g} hf hg p e zero h =
+-- agreeing at a power of two, they agree at it times 0 or 1
+at-power-or-zero : {f g : ℕ → ℕ → ℕ} → Linear f → Linear g → (p : ℕ) → f p 0 ≡ g p 0 → (bit : ℕ) → bit < 2 → f (bit * p) 0 ≡ g (bit * p) 0
+at-power-or-zero {f} {g} hf hg p e zero h =
     ap (λ (x : ℕ). f x 0) (zero-mul p) ∙ at-zero hf ∙ sym (at-zero hg) ∙ ap (λ (x : ℕ). g x 0) (sym (zero-mul p))
-at-bit {f} {g} hf hg p e (suc zero) h = ap (λ (x : ℕ). f x 0) (one-mul p) ∙ e ∙ ap (λ (x : ℕ). g x 0) (sym (one-mul p))
-at-bit hf hg p e (suc (suc bit)) h = absurd (omega arith)
+at-power-or-zero {f} {g} hf hg p e (suc zero) h = ap (λ (x : ℕ). f x 0) (one-mul p) ∙ e ∙ ap (λ (x : ℕ). g x 0) (sym (one-mul p))
+at-power-or-zero hf hg p e (suc (suc bit)) h = absurd (omega arith)
 
 -- so, by the top bit and the rest, at all below 2^n
 below : {f g : ℕ → ℕ → ℕ} → Linear f → Linear g → (n : ℕ) → ((i : ℕ) → i < n → f (2 ^ i) 0 ≡ g (2 ^ i) 0) → (x : ℕ) → x < 2 ^ n → f x 0 ≡ g x 0
@@ -41,22 +41,22 @@ below {f} {g} hf hg (suc n) e x h =
     let l : low < 2 ^ n = mod-lt x (pow-pos n) in
     let parts : x ≡ bitXor (top * 2 ^ n) low = sym (split x n) ∙ sym (xor-shifted top n low l) in
     ap (λ (y : ℕ). f y 0) parts ∙ hf .through (top * 2 ^ n) low 0 0
-    ∙ ap₂ bitXor (at-bit hf hg (2 ^ n) (e n (omega arith)) top (shr-lt 1 n (subst (λ (k : ℕ). x < 2 ^ k) (sym (one-add n)) h)))
+    ∙ ap₂ bitXor (at-power-or-zero hf hg (2 ^ n) (e n (omega arith)) top (shr-lt 1 n (subst (λ (k : ℕ). x < 2 ^ k) (sym (one-add n)) h)))
     (below hf hg n (λ i k. e i (omega arith)) low l)
     ∙ sym (ap (λ (y : ℕ). g y 0) parts ∙ hg .through (top * 2 ^ n) low 0 0)
 
 -- the first number's part and the other one's
-apart : {f : ℕ → ℕ → ℕ} → Linear f → (x y : ℕ) → f x y ≡ bitXor (f x 0) (f 0 y)
-apart {f} h x y = ap (λ (z : ℕ). f z y) (sym (xor-zero-r x)) ∙ h .through x 0 0 y
+two-parts : {f : ℕ → ℕ → ℕ} → Linear f → (x y : ℕ) → f x y ≡ bitXor (f x 0) (f 0 y)
+two-parts {f} h x y = ap (λ (z : ℕ). f z y) (sym (xor-zero-r x)) ∙ h .through x 0 0 y
 
--- Two that agree at the first n powers of two, compared by computing, agree at every number below 2^n, and at every other number where they
--- agree at that beside 0.
+-- Two that agree at the first n powers of two, compared by computing, agree at every first number below 2^n, beside every second number at which
+-- they agree beside 0.
 pub agree : {f g : ℕ → ℕ → ℕ} → Linear f → Linear g → (n : ℕ) → valuesFrom (λ i. f (2 ^ i) 0) 0 n ≡ valuesFrom (λ i. g (2 ^ i) 0) 0 n
     → (x y : ℕ) → x < 2 ^ n → f 0 y ≡ g 0 y → f x y ≡ g x y
 agree {f} {g} hf hg n e x y h d =
-    apart hf x y
+    two-parts hf x y
     ∙ ap₂ bitXor (below hf hg n (λ i l. same-values (λ j. f (2 ^ j) 0) (λ j. g (2 ^ j) 0) n i e l) x h) d
-    ∙ sym (apart hg x y)
+    ∙ sym (two-parts hg x y)
 
 -- shifts and exclusive-or
 pub shifts-linear : (s : Shifts) → Linear (shifted s)

@@ -12,7 +12,7 @@ use lib.Pow.{pow-add}
 use Rattle.octets.specs.Numbers.{byteAt, AllBytes}
 use Rattle.remainder.specs.Remainder.{withBits, bitsOf, messageBits}
 use Rattle.remainder.specs.Inner.{withNumber, highFirst}
-use Rattle.remainder.proofs.Steps.{number-join, byte-bits, none-of-none}
+use Rattle.remainder.proofs.Steps.{number-join, byte-bits, zeros-leave-zero}
 
 -- one byte of the message more, and the end of the message
 pub byte-turn : (s : List ℕ) (c d i : ℕ) → d ≡ withBits c (bitsOf (byteAt s i)) → i < length s
@@ -55,7 +55,7 @@ read-number (suc n) c s at all h =
 pub zeros-before : (n k x : ℕ) → x < 2 ^ n → withNumber (n + k) 0 x ≡ withNumber n 0 x
 zeros-before n k x h =
     let e : 0 * 2 ^ n + x ≡ x = ap (λ (y : ℕ). y + x) (zero-mul (2 ^ n)) ∙ zero-add x in
-    ap (withNumber (n + k) 0) (sym e) ∙ number-join n k 0 0 x h ∙ ap (λ (c : ℕ). withNumber n c x) (none-of-none k)
+    ap (withNumber (n + k) 0) (sym e) ∙ number-join n k 0 0 x h ∙ ap (λ (c : ℕ). withNumber n c x) (zeros-leave-zero k)
 
 -- so the first n bytes of a message, at most eight, are a number of 64 bits
 pub first-bytes : (n : ℕ) (s : List ℕ) → AllBytes s → n ≤ 8 → n ≤ length s

@@ -18,12 +18,12 @@ bit-below c bit h l =
     xor-lt 16 (bitXor (c / 2 ^ 15) bit * polynomial) (c * 2 % 2 ^ 16) (omega arith) (omega arith)
 
 -- the polynomial once or not at all
-off : (a b : ℕ) → a < 2 → b < 2 → bitXor a b * polynomial ≡ bitXor (a * polynomial) (b * polynomial)
-off zero b ha hb = refl
-off (suc zero) zero ha hb = refl
-off (suc zero) (suc zero) ha hb = refl
-off (suc zero) (suc (suc b)) ha hb = absurd (omega arith)
-off (suc (suc a)) b ha hb = absurd (omega arith)
+polynomial-times : (a b : ℕ) → a < 2 → b < 2 → bitXor a b * polynomial ≡ bitXor (a * polynomial) (b * polynomial)
+polynomial-times zero b ha hb = refl
+polynomial-times (suc zero) zero ha hb = refl
+polynomial-times (suc zero) (suc zero) ha hb = refl
+polynomial-times (suc zero) (suc (suc b)) ha hb = absurd (omega arith)
+polynomial-times (suc (suc a)) b ha hb = absurd (omega arith)
 
 -- one bit more passes through exclusive-or
 bit-linear : (c d a b : ℕ) → c < 2 ^ 16 → d < 2 ^ 16 → a < 2 → b < 2 → withBit (bitXor c d) (bitXor a b) ≡ bitXor (withBit c a) (withBit d b)
@@ -34,7 +34,7 @@ bit-linear c d a b hc hd ha hb =
     let top : bitXor (bitXor c d / 2 ^ 15) (bitXor a b) ≡ bitXor p q =
     ap (λ (n : ℕ). bitXor n (bitXor a b)) (xor-shr c d 15) ∙ xor-four (c / 2 ^ 15) (d / 2 ^ 15) a b in
     let taken : bitXor (bitXor c d / 2 ^ 15) (bitXor a b) * polynomial ≡ bitXor (p * polynomial) (q * polynomial) =
-    ap (λ (n : ℕ). n * polynomial) top ∙ off p q (xor-lt 1 (c / 2 ^ 15) a (omega arith) ha) (xor-lt 1 (d / 2 ^ 15) b (omega arith) hb) in
+    ap (λ (n : ℕ). n * polynomial) top ∙ polynomial-times p q (xor-lt 1 (c / 2 ^ 15) a (omega arith) ha) (xor-lt 1 (d / 2 ^ 15) b (omega arith) hb) in
     let up : bitXor c d * 2 % 2 ^ 16 ≡ bitXor (c * 2 % 2 ^ 16) (d * 2 % 2 ^ 16) = ap (λ (n : ℕ). n % 2 ^ 16) (xor-shl 1 c d) ∙ xor-mod (c * 2) (d * 2) 16 in
     ap₂ bitXor taken up ∙ xor-four (p * polynomial) (q * polynomial) (c * 2 % 2 ^ 16) (d * 2 % 2 ^ 16)
 
@@ -51,15 +51,16 @@ number-linear (suc n) c d x y hc hd =
     ap₂ withBit (ap (withNumber n (bitXor c d)) (xor-shr x y 1) ∙ number-linear n c d (x / 2) (y / 2) hc hd) (xor-mod x y 1)
     ∙ bit-linear (withNumber n c (x / 2)) (withNumber n d (y / 2)) (x % 2) (y % 2) (number-below n c (x / 2) hc) (number-below n d (y / 2) hd) (omega arith) (omega arith)
 
--- from 16 bits on, and from 0 on
+-- from the lowest 16 bits of any number on
 pub bits-linear : (n : ℕ) → Linear (λ c x. withNumber n (c % 2 ^ 16) x)
 bits-linear n = record {
   through = λ c d x y.
       ap (λ (z : ℕ). withNumber n z (bitXor x y)) (xor-mod c d 16) ∙ number-linear n (c % 2 ^ 16) (d % 2 ^ 16) x y (omega arith) (omega arith);
 }
 
-pub none-of-none : (n : ℕ) → withNumber n 0 0 ≡ 0
-none-of-none n = at-zero (bits-linear n)
+-- zero bits from 0 on
+pub zeros-leave-zero : (n : ℕ) → withNumber n 0 0 ≡ 0
+zeros-leave-zero n = at-zero (bits-linear n)
 
 -- a number and what stands behind it, one after the other
 pub number-join : (n k c x y : ℕ) → y < 2 ^ n → withNumber (n + k) c (x * 2 ^ n + y) ≡ withNumber n (withNumber k c x) y

@@ -25,21 +25,21 @@ shifted (left w k) x y = x * 2 ^ k % 2 ^ w
 shifted (s ⊕ t) x y = bitXor (shifted s x y) (shifted t x y)
 shifted (s then t) x y = shifted t (shifted s x y) y
 
--- a remainder, and after it the byte beside it: from what leaves at the top to how often the polynomial is taken off, and to what is left
+-- a remainder, and after it the byte beside it: q is the quotient of what leaves at the top
 abbrev pub byteStep : Shifts
 byteStep =
     let q = right 8 ⊕ other then itself ⊕ right 4 in
     left 16 8 ⊕ (q then left 16 12) ⊕ (q then left 16 5) ⊕ q
 
--- how often the fourth power of the polynomial, of 64, 48, 20 and 0, is taken off a number with 64 zero bits behind it
+-- the quotient of a number, with 64 zero bits behind it, by the fourth power of the polynomial, which has the terms 64, 48, 20 and 0
 abbrev pub byFourth : Shifts
 byFourth = itself ⊕ right 32 then itself ⊕ right 16 ⊕ right 44
 
--- from that to what is left, where the 64 bits beside it stand behind the number
+-- from that quotient to what is left, where the 64 bits beside it stand behind the number
 abbrev pub eightStep : Shifts
 eightStep = itself ⊕ left 64 20 ⊕ left 64 48 ⊕ other
 
--- from that to how often the second power is taken off, then to how often the polynomial is, and to what is left
+-- from the quotient by the fourth power to that by the second, then to that by the polynomial, and to the remainder
 abbrev pub narrowStep : Shifts
 narrowStep =
     itself ⊕ right 8 ⊕ right 22 ⊕ right 32

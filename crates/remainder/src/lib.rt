@@ -3,7 +3,8 @@
 // exclusive-or (02, C-13): a short message byte by byte, a longer one eight bytes at a step.
 //
 // Its contracts cite `specs/Remainder.antt`, where the remainder is taken bit by bit, and
-// `specs/Check.antt`; private functions promise each other what `specs/Inner.antt` has.
+// `specs/Check.antt`; private functions promise each other what `specs/Inner.antt` and
+// `specs/Shifts.antt` have.
 ghost use mathlib.Core.Path.{_≡_};
 ghost use Prim.Native.Nat.{_+_, _*_, _^_, _≤_, _<_};
 ghost use lib.ListN.{length};
@@ -16,7 +17,7 @@ ghost use Rattle.remainder.specs.Inner.{withNumber, highFirst};
 pub fn remainder(s: &[u8]) -> u16
     ensures { λ r. ⌜ r ≡ remainderOf (now (s .entry)) ⌝ }
 {
-    if s.len() < 8 {
+    if s.len() < 4 {
         return by_bytes(s);
     }
     by_eights(s)
@@ -35,7 +36,7 @@ pub fn check_right(information: &[u8]) -> bool
     remainder(&information[..n]) == given
 }
 
-// The remainder of all bytes of s, one after the other.
+// The remainder of all bytes of s, byte by byte.
 fn by_bytes(s: &[u8]) -> u16
     ensures { λ r. ⌜ r ≡ remainderOf (now (s .entry)) ⌝ }
 {
@@ -48,8 +49,8 @@ fn by_bytes(s: &[u8]) -> u16
     c
 }
 
-// The remainder after one byte more. The eight bits that leave at the top are the high byte with the
-// new byte laid over it; q has a bit for each time that the polynomial is taken off.
+// The remainder after one byte more. Eight bits leave at the top, the high byte exclusive-or the new
+// byte; q is their quotient by the polynomial, a bit for each time that it is taken off.
 fn next_byte(c: u16, b: u8) -> u16
     ensures { λ r. ⌜ r ≡ withBits c (bitsOf b) ⌝ }
 {
@@ -81,22 +82,24 @@ fn number_at(s: &[u8], at: usize, n: usize) -> u64
     let mut number: u64 = 0;
     let mut k = 0;
     while k < n {
-        number = with_byte(number, s[at + k]);
+        number = byte_behind(number, s[at + k]);
         k += 1;
     }
     number
 }
 
 // A number with a byte behind it.
-fn with_byte(number: u64, b: u8) -> u64
+fn byte_behind(number: u64, b: u8) -> u64
     requires { ⌜ number < 2 ^ 56 ⌝ }
     ensures { λ r. ⌜ r ≡ number * 256 + b ⌝ }
 {
     (number << 8) | (b as u64)
 }
 
-// A number of 64 bits with the remainder of `wide` and the eight bytes behind it: what is left of these
-// 128 bits by the fourth power of the polynomial, of 64, 48, 20 and 0.
+// A number of 64 bits with the remainder of `wide` and the eight bytes behind it: what these 128 bits
+// leave by the fourth power of the polynomial, which has the terms 64, 48, 20 and 0. Squaring
+// doubles each exponent, so the second power has 32, 24, 10 and 0. The polynomial divides both, and
+// what they leave has the same remainder.
 fn next_eight(wide: u64, eight: u64) -> u64
     ensures { λ r. ⌜ withNumber 64 0 r ≡ withNumber 64 (withNumber 64 0 wide) eight ⌝ }
 {
@@ -104,8 +107,8 @@ fn next_eight(wide: u64, eight: u64) -> u64
     q ^ (q << 20) ^ (q << 48) ^ eight
 }
 
-// The remainder of a number of 64 bits. From how often the fourth power is taken off follows how often
-// the second is, and from that how often the polynomial itself is.
+// The remainder of a number of 64 bits. From its quotient by the fourth power follow that by the
+// second, and the quotient q by the polynomial itself.
 fn narrow(wide: u64) -> u16
     ensures { λ r. ⌜ r ≡ withNumber 64 0 wide ⌝ }
 {
@@ -115,8 +118,8 @@ fn narrow(wide: u64) -> u16
     ((q ^ (q << 5) ^ (q << 12)) % 65536) as u16
 }
 
-// How often the fourth power of the polynomial is taken off a number with 64 zero bits behind it, a bit
-// for each time.
+// The quotient of a number, with 64 zero bits behind it, by the fourth power: the q of which
+// q ^ (q >> 16) ^ (q >> 44) is x.
 fn by_fourth(x: u64) -> u64
     ensures { λ r. ⌜ r ≡ shifted byFourth x 0 ⌝ }
 {

@@ -96,7 +96,7 @@ themes! {
     written        3_000    180_000 [WRITE_FILL, bits("write_fill"), WRITE_START, bits("write_start")]
     records        1_500    200_000 [SAVE, LOAD]
     numbers        4_000    100_000 [REMAINDER, IS_HELD, COUNT_HELD]
-    remainders     1_000     40_000 [REMAINDER]
+    remainders     1_000     42_000 [REMAINDER]
     limits           400      6_000 [
         order("open", "7"),
         order("take", "7'' 10"),

