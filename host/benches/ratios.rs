@@ -39,7 +39,8 @@ fn main() -> ExitCode {
         Err(error) => return stop(&error),
     };
     let rows = rows::rows();
-    if let Err(error) = addresses::check().and_then(|()| remainders::check()).and_then(|()| rows.iter().try_for_each(check)) {
+    let alike = addresses::check().and_then(|()| remainders::check());
+    if let Err(error) = alike.and_then(|()| rows.iter().try_for_each(check)) {
         return stop(&error);
     }
     let clock = clock_time();
