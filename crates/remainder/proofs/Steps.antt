@@ -6,9 +6,10 @@ use native.Mathlib.Nat.{suc-add, zero-add, div-div-eq-div-mul}
 use native.Mathlib.Omega.{arith}
 use lib.Bits.{bitXor, xor-shr, xor-mod, xor-lt, block-half, block-odd}
 use Rattle.remainder.specs.Remainder.{polynomial, withBit, withBits, bitsOf}
+use Rattle.remainder.specs.Shifts.{left}
 use Rattle.remainder.specs.Inner.{withNumber}
-use Rattle.remainder.proofs.Xor.{xor-four, xor-shl}
-use Rattle.remainder.proofs.Linear.{Linear, at-zero}
+use Rattle.remainder.proofs.Xor.{xor-four}
+use Rattle.remainder.proofs.Linear.{Linear, at-zero, shifts-linear}
 
 -- one bit more: the remainder stays below 2^16
 bit-below : (c bit : ℕ) → c < 2 ^ 16 → bit < 2 → withBit c bit < 2 ^ 16
@@ -35,8 +36,7 @@ bit-linear c d a b hc hd ha hb =
     ap (λ (n : ℕ). bitXor n (bitXor a b)) (xor-shr c d 15) ∙ xor-four (c / 2 ^ 15) (d / 2 ^ 15) a b in
     let taken : bitXor (bitXor c d / 2 ^ 15) (bitXor a b) * polynomial ≡ bitXor (p * polynomial) (q * polynomial) =
     ap (λ (n : ℕ). n * polynomial) top ∙ polynomial-times p q (xor-lt 1 (c / 2 ^ 15) a (omega arith) ha) (xor-lt 1 (d / 2 ^ 15) b (omega arith) hb) in
-    let up : bitXor c d * 2 % 2 ^ 16 ≡ bitXor (c * 2 % 2 ^ 16) (d * 2 % 2 ^ 16) = ap (λ (n : ℕ). n % 2 ^ 16) (xor-shl 1 c d) ∙ xor-mod (c * 2) (d * 2) 16 in
-    ap₂ bitXor taken up ∙ xor-four (p * polynomial) (q * polynomial) (c * 2 % 2 ^ 16) (d * 2 % 2 ^ 16)
+    ap₂ bitXor taken (shifts-linear (left 16 1) .through c d 0 0) ∙ xor-four (p * polynomial) (q * polynomial) (c * 2 % 2 ^ 16) (d * 2 % 2 ^ 16)
 
 -- all bits of a number: below 2^16, and through exclusive-or
 pub number-below : (n c x : ℕ) → c < 2 ^ 16 → withNumber n c x < 2 ^ 16
