@@ -39,7 +39,7 @@ fn address(ssid: u8, bit7: u8) -> u64 {
 /// What a side answers to a frame, and the addresses that it tells.
 fn read<S: Side>(frame: &[u8]) -> (Result<(), Reason>, u64, u64) {
     let mut told = EntryTold::default();
-    let answer = S::entry(frame, false, &mut told, &mut HeaderTold::default());
+    let answer = S::entry(frame, &mut told, &mut HeaderTold::default());
     (answer, told.destination, told.source)
 }
 

@@ -205,15 +205,9 @@ pub fn write_fill(
     Ok(())
 }
 
-/// Reads a frame as a directory entry with all values of its header, under the new edition where that is asked for. Refuses
-/// 1, 2, 3, 4, 7, 1, 6, 5, 14, 8.
+/// Reads a frame as a directory entry with all values of its header. Refuses 1, 2, 3, 4, 7, 1, 6, 5, 14, 8.
 #[inline(never)]
-pub fn entry(
-    frame: &[u8],
-    new_edition: bool,
-    told: &mut EntryTold,
-    header_told: &mut HeaderTold,
-) -> Result<(), Reason> {
+pub fn entry(frame: &[u8], told: &mut EntryTold, header_told: &mut HeaderTold) -> Result<(), Reason> {
     let (destination, source, information) = read_head(frame, DIRECTORY)?;
     if information.len() < ENTRY_HEADER + CHECK {
         return Err(Reason::Short);
@@ -229,7 +223,7 @@ pub fn entry(
     }
     let number = number4(&content[1..]);
     let header = &content[ENTRY_HEADER..];
-    *header_told = read_header(header, number, new_edition).ok_or(Reason::Header)?;
+    *header_told = read_header(header, number).ok_or(Reason::Header)?;
     *told = EntryTold {
         destination,
         source,
@@ -589,8 +583,8 @@ fn is_clear(held: u8, bytes: &[u8]) -> bool {
     held == 0xFF || bytes.iter().enumerate().all(|(k, &byte)| (held >> k) & 1 == 1 || byte == 0)
 }
 
-/// The values of a whole file header with a number that nothing follows, if it keeps the rules of the edition.
-fn read_header(header: &[u8], number: u32, new_edition: bool) -> Option<HeaderTold> {
+/// The values of a whole file header with a number that nothing follows, if it keeps the rules.
+fn read_header(header: &[u8], number: u32) -> Option<HeaderTold> {
     let mut items = header.strip_prefix(&[0xAA, 0x55])?;
     let mut told = HeaderTold::default();
     let mut file_number = 0;
@@ -638,9 +632,8 @@ fn read_header(header: &[u8], number: u32, new_edition: bool) -> Option<HeaderTo
     }
     let all: u16 = header.iter().fold(0, |sum: u16, &byte| sum.wrapping_add(u16::from(byte)));
     let own = told.headersum.to_le_bytes().iter().fold(0, |sum: u16, &byte| sum + u16::from(byte));
-    let mandatory = if new_edition { MANDATORY | 1 << UPLOAD } else { MANDATORY };
     let right = items.is_empty()
-        && seen & mandatory == mandatory
+        && seen & MANDATORY == MANDATORY
         && all.wrapping_sub(own) == told.headersum
         && file_number == number
         && usize::from(told.body) >= header.len()

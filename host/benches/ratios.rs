@@ -3,14 +3,13 @@
 //! `cargo bench` prints a table, `cargo bench -- --markdown` the same in Markdown; further words choose the
 //! operations, as in `cargo bench -- take join`.
 //!
-//! Every input is first given to both, and so are every SSID, every id in the place of item 12 under both editions, and messages
-//! of each length, and the run stops with an error where an answer or a lent byte differs.
+//! Every input is first given to both, and so are every SSID and messages of each length, and the run stops with an error where
+//! an answer or a lent byte differs.
 //! Then both are timed in turns, over many rounds, and each time is the **minimum** over the rounds, less the
 //! clock's own time. The ratio is plain Rust's time divided by the library's: from 1.00 on the library is at
 //! least as fast. Both are real calls: the library's through `thoweldeck::boundary`, as a host makes them.
 //! `THOWELDECK_BENCH_ROUNDS` sets the number of rounds.
 mod addresses;
-mod editions;
 mod inputs;
 mod plain;
 mod remainders;
@@ -40,7 +39,7 @@ fn main() -> ExitCode {
         Err(error) => return stop(&error),
     };
     let rows = rows::rows();
-    let alike = addresses::check().and_then(|()| editions::check()).and_then(|()| remainders::check());
+    let alike = addresses::check().and_then(|()| remainders::check());
     if let Err(error) = alike.and_then(|()| rows.iter().try_for_each(check)) {
         return stop(&error);
     }

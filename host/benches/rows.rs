@@ -189,8 +189,7 @@ impl Operation for Entry {
     fn run<S: Side>(space: &mut Space, mut tell: impl FnMut(u64)) {
         let mut told = EntryTold::default();
         let mut header = HeaderTold::default();
-        let (frame, new_edition) = (black_box(&space.frames[0][..]), black_box(false));
-        tell(number_of(S::entry(frame, new_edition, &mut told, &mut header)));
+        tell(number_of(S::entry(black_box(&space.frames[0][..]), &mut told, &mut header)));
         let fields = [told.destination, told.source, told.start as u64, told.size as u64, header.name];
         let numbers = [told.number, told.offset, told.old, told.new, header.extension, header.length];
         let times = [header.created, header.modified, header.upload];

@@ -48,8 +48,8 @@ pub trait Side {
         count: &mut u32,
         end: &mut u32,
     ) -> Result<(), Reason>;
-    /// Reads a directory entry with all values of its header, under the new edition where that is asked for.
-    fn entry(frame: &[u8], new_edition: bool, told: &mut EntryTold, header: &mut HeaderTold) -> Result<(), Reason>;
+    /// Reads a directory entry with all values of its header.
+    fn entry(frame: &[u8], told: &mut EntryTold, header: &mut HeaderTold) -> Result<(), Reason>;
 }
 
 /// The proved library.
@@ -119,13 +119,8 @@ macro_rules! side {
             ) -> Result<(), Reason> {
                 $module::write_fill(wanted, place, target, count, end)
             }
-            fn entry(
-                frame: &[u8],
-                new_edition: bool,
-                told: &mut EntryTold,
-                header: &mut HeaderTold,
-            ) -> Result<(), Reason> {
-                $module::entry(frame, new_edition, told, header)
+            fn entry(frame: &[u8], told: &mut EntryTold, header: &mut HeaderTold) -> Result<(), Reason> {
+                $module::entry(frame, told, header)
             }
         }
     };

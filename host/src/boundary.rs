@@ -88,21 +88,9 @@ extern "C" {
     fn station_write_start(destination: u64, source: u64, number: u32, target: *mut u8, target_size: usize) -> u8;
     fn station_read_request(frame: *const u8, frame_size: usize, told: &mut [u64; 5]) -> u8;
     fn station_hole(frame: *const u8, frame_size: usize, index: u32, start: &mut u32, hole_length: &mut u32) -> u8;
-    fn station_entry(
-        frame: *const u8,
-        frame_size: usize,
-        new_edition: bool,
-        told: &mut [u64; 9],
-        values: &mut [u64; 12],
-    ) -> u8;
-    fn station_header(
-        bytes: *const u8,
-        bytes_size: usize,
-        number: u32,
-        new_edition: bool,
-        size: &mut usize,
-        values: &mut [u64; 12],
-    ) -> u8;
+    fn station_entry(frame: *const u8, frame_size: usize, told: &mut [u64; 9], values: &mut [u64; 12]) -> u8;
+    fn station_header(bytes: *const u8, bytes_size: usize, number: u32, size: &mut usize, values: &mut [u64; 12])
+        -> u8;
     fn station_is_held(length: u32, map: *const u8, map_size: usize, position: u32) -> bool;
     fn station_count_held(length: u32, map: *const u8, map_size: usize) -> u32;
     fn station_remainder(bytes: *const u8, bytes_size: usize) -> u16;
@@ -110,8 +98,8 @@ extern "C" {
 
 // Every call below is sound for the same reasons. The exported functions ask nothing of their caller but that a pointer
 // and its size are a slice's, which each is here; that what is lent to be changed overlaps with nothing else lent, which
-// Rust's borrows make sure of; and that a bool is passed as 0 or 1, as Rust passes it. They keep no pointer, do not unwind,
-// and return a bool as 0 or 1. That the declarations are those of the library is compared by `tests/declarations.rs`.
+// Rust's borrows make sure of; and they keep no pointer, do not unwind, and return a bool as 0 or 1. That the
+// declarations are those of the library is compared by `tests/declarations.rs`.
 
 // What is told as an array of numbers: a struct whose fields stand in the array's order. Each number is a field's own
 // value, so that no cast loses anything.
@@ -447,43 +435,35 @@ told! {
         headersum: u16,
         /// Item 0B: where the body starts in the file.
         body: u16,
-        /// 1 where item 12 is there, 0 where not; under the new edition it is there.
+        /// 1 where item 12 is there, 0 where not.
         uploaded: u8,
         /// Item 12: when the file was uploaded; 0 where there is none.
         upload: u32,
     }
 }
 
-/// Reads a frame as a directory entry, and the file header in it under the new [`Edition`](crate::Edition) where
-/// `new_edition` is true, and else under the old one.
+/// Reads a frame as a directory entry, and the file header in it.
 ///
 /// # Errors
 ///
 /// Refuses 1, 2, 3, 4, 7, 1, 6, 5, 14, 8.
-pub fn entry(frame: &[u8], new_edition: bool, told: &mut EntryTold, header: &mut HeaderTold) -> Result<(), Reason> {
+pub fn entry(frame: &[u8], told: &mut EntryTold, header: &mut HeaderTold) -> Result<(), Reason> {
     let (mut numbers, mut values) = (told.lent(), header.lent());
-    let returned = unsafe { station_entry(frame.as_ptr(), frame.len(), new_edition, &mut numbers, &mut values) };
+    let returned = unsafe { station_entry(frame.as_ptr(), frame.len(), &mut numbers, &mut values) };
     *told = EntryTold::left(numbers);
     *header = HeaderTold::left(values);
     answer(returned)
 }
 
-/// Reads the file header that the bytes start with, of the file with the number, under the new
-/// [`Edition`](crate::Edition) where `new_edition` is true, and else under the old one, and tells how many bytes the
+/// Reads the file header that the bytes start with, of the file with the number, and tells how many bytes the
 /// header itself has. What follows it is not looked at.
 ///
 /// # Errors
 ///
 /// Refuses 8.
-pub fn header(
-    bytes: &[u8],
-    number: u32,
-    new_edition: bool,
-    size: &mut usize,
-    told: &mut HeaderTold,
-) -> Result<(), Reason> {
+pub fn header(bytes: &[u8], number: u32, size: &mut usize, told: &mut HeaderTold) -> Result<(), Reason> {
     let mut values = told.lent();
-    let returned = unsafe { station_header(bytes.as_ptr(), bytes.len(), number, new_edition, size, &mut values) };
+    let returned = unsafe { station_header(bytes.as_ptr(), bytes.len(), number, size, &mut values) };
     *told = HeaderTold::left(values);
     answer(returned)
 }

@@ -1,5 +1,5 @@
 //! Frames that a station hears: file pieces and directory entries (01, "Frame" and "File header").
-use crate::{boundary, Address, Edition, Reason};
+use crate::{boundary, Address, Reason};
 
 /// A file piece, read from a frame. Its bytes are the frame's own, without the two check bytes.
 ///
@@ -94,34 +94,15 @@ pub struct Entry<'a> {
 }
 
 impl<'a> Entry<'a> {
-    /// Reads a frame as a directory entry, its header under the old edition: item 12 may be missing.
+    /// Reads a frame as a directory entry.
     ///
     /// # Errors
     ///
     /// Refuses 1 (below 16 bytes), 2, 3, 4, 7 (over 255), 1 (information), 6, 5, 14, 8.
     pub fn read(frame: &'a [u8]) -> Result<Entry<'a>, Reason> {
-        Entry::read_under(frame, Edition::Old)
-    }
-
-    /// Reads a frame as a directory entry, its header under an edition.
-    ///
-    /// ```
-    /// use thoweldeck::{Edition, Entry, Reason};
-    ///
-    /// // a sample of this package: the directory entry of an older file, whose header has no item 12
-    /// let frame = include_bytes!(concat!(env!("CARGO_MANIFEST_DIR"), "/samples/older/entry.frame"));
-    /// assert_eq!(Entry::read_under(frame, Edition::New), Err(Reason::Header));
-    /// assert_eq!(Entry::read_under(frame, Edition::Old)?.header.upload, None);
-    /// # Ok::<(), Reason>(())
-    /// ```
-    ///
-    /// # Errors
-    ///
-    /// Refuses as [`read`](Entry::read) does, and 8 also where item 12 is missing under the new edition.
-    pub fn read_under(frame: &'a [u8], edition: Edition) -> Result<Entry<'a>, Reason> {
         let mut told = boundary::EntryTold::default();
         let mut header = boundary::HeaderTold::default();
-        boundary::entry(frame, edition.is_new(), &mut told, &mut header)?;
+        boundary::entry(frame, &mut told, &mut header)?;
         Ok(Entry {
             destination: Address::told(told.destination),
             source: Address::told(told.source),
@@ -163,13 +144,12 @@ pub struct Header {
     pub headersum: u16,
     /// Item 0B: where the body starts in the file.
     pub body: u16,
-    /// Item 12: when the file was uploaded, where the item is there. Under the new edition it is.
+    /// Item 12: when the file was uploaded, where the item is there.
     pub upload: Option<u32>,
 }
 
 impl Header {
-    /// Reads the file header that bytes start with, of the file with a number, under the old edition: item 12 may be
-    /// missing. What follows the header is not looked at.
+    /// Reads the file header that bytes start with, of the file with a number. What follows the header is not looked at.
     ///
     /// A file starts with its header, so the piece at offset 0 tells the file's length, where the header is whole in it.
     ///
@@ -197,30 +177,9 @@ impl Header {
     /// item is missing, repeated or of another length; its sum differs, its number is another, or the body starts
     /// inside it or beyond the file.
     pub fn read(bytes: &[u8], number: u32) -> Result<Header, Reason> {
-        Header::read_under(bytes, number, Edition::Old)
-    }
-
-    /// Reads the file header that bytes start with, of the file with a number, under an edition. What follows the header is
-    /// not looked at.
-    ///
-    /// ```
-    /// use thoweldeck::{Edition, Entry, Header, Reason};
-    ///
-    /// // the header of an older file, without item 12, as its directory entry has it
-    /// let frame = include_bytes!(concat!(env!("CARGO_MANIFEST_DIR"), "/samples/older/entry.frame"));
-    /// let entry = Entry::read(frame)?;
-    /// assert_eq!(Header::read_under(entry.bytes, entry.number, Edition::Old), Ok(entry.header));
-    /// assert_eq!(Header::read_under(entry.bytes, entry.number, Edition::New), Err(Reason::Header));
-    /// # Ok::<(), Reason>(())
-    /// ```
-    ///
-    /// # Errors
-    ///
-    /// Refuses 8 as [`read`](Header::read) does, and also where item 12 is missing under the new edition.
-    pub fn read_under(bytes: &[u8], number: u32, edition: Edition) -> Result<Header, Reason> {
         let mut size = 0;
         let mut told = boundary::HeaderTold::default();
-        boundary::header(bytes, number, edition.is_new(), &mut size, &mut told)?;
+        boundary::header(bytes, number, &mut size, &mut told)?;
         Ok(Header::told(told, size))
     }
 

@@ -9,7 +9,6 @@
 //!   [`save`](Reception::save), [`load`](Reception::load);
 //! - [`Piece`], [`Entry`], [`Request`]: a frame, read;
 //! - [`Header`]: a file header, read with its directory entry or from the start of the file itself;
-//! - [`Edition`]: what a header is read under: the old edition, in which item 12, the upload time, may be missing, or the new;
 //! - [`Address`]: a callsign, its SSID and bit 7 of the SSID byte, from and to the texts `VA3SFL-0` and `VA3SFL-0+bit7`;
 //! - [`Reason`]: why something was refused, with the paper's number and a sentence;
 //! - [`boundary`]: the proved functions themselves, on numbers and lent slices;
@@ -65,7 +64,6 @@ compile_error!(env!("THOWELDECK_NO_LIBRARY"));
 mod address;
 #[allow(unsafe_code)]
 pub mod boundary;
-mod edition;
 mod frame;
 #[allow(unsafe_code)]
 pub mod lock;
@@ -75,7 +73,6 @@ mod request;
 
 pub use address::Address;
 pub use boundary::remainder;
-pub use edition::{Edition, NoEdition};
 pub use frame::{Entry, Header, Piece};
 pub use reason::{NoReason, Reason};
 pub use reception::{Hole, Holes, Reception, LONGEST};

@@ -5,7 +5,7 @@ mod made;
 use std::collections::BTreeMap;
 use std::fs;
 use std::path::{Path, PathBuf};
-use thoweldeck::{Edition, Entry, Piece, Reason, Reception};
+use thoweldeck::{Entry, Piece, Reception};
 
 fn folder() -> PathBuf {
     Path::new(env!("CARGO_MANIFEST_DIR")).join("samples")
@@ -60,16 +60,4 @@ fn the_file_begins_with_the_header_of_its_entry() {
     assert_eq!(piece.offset, 0);
     assert!(piece.bytes.starts_with(entry.bytes));
     assert_eq!(entry.header.length as usize, made["survey/whole.file"].len());
-}
-
-#[test]
-fn the_older_entry_has_no_item_12() {
-    let made: BTreeMap<String, Vec<u8>> = made::samples().into_iter().collect();
-    let entry = Entry::read(&made["older/entry.frame"]).expect("a directory entry");
-    assert_eq!((entry.bytes.len(), entry.header.upload), (73, None));
-    assert_eq!(Entry::read_under(&made["older/entry.frame"], Edition::New), Err(Reason::Header));
-    // the other entry has it, and is the same under both editions
-    let entry = Entry::read(&made["survey/entry.frame"]).expect("a directory entry");
-    assert_eq!((entry.bytes.len(), entry.header.upload.is_some()), (80, true));
-    assert_eq!(Entry::read_under(&made["survey/entry.frame"], Edition::New), Ok(entry));
 }

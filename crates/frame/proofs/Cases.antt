@@ -1,10 +1,10 @@
--- The cases of 01 that frames decide, the figures, and both sides of their limits, entries under both editions, by computation.
+-- The cases of 01 that frames decide, the figures, and both sides of their limits, by computation.
 -- Assumes nothing.
 use mathlib.Core.Path.{◌≡◌, refl}
 use mathlib.Core.List.{List, [], ◌∷◌, ◌++◌}
 use Prim.Native.Nat.{ℕ}
 use lib.ListN.{take, drop, set, replicate}
-use Rattle.reason.specs.Answer.{Answer, accepted, refused}
+use Rattle.reason.specs.Answer.{accepted, refused}
 use Rattle.reason.specs.Order.{first_of}
 use Rattle.octets.specs.Runs.{put_in}
 use Rattle.remainder.specs.Remainder.{with_bit, with_bits, message_bits, remainder_of}
@@ -14,18 +14,14 @@ use Rattle.ax25.specs.Address.{is_name, address_at, well_formed}
 use Rattle.ax25.specs.Head.{head_checks, head_of}
 use Rattle.ax25.specs.Examples.{va3sfl, va3sfl_bytes, uosat5, uosat5_bytes}
 use Rattle.ax25.specs.declared.Head.{Head}
-use Rattle.header.specs.declared.Upload.{Upload}
-use Rattle.header.specs.declared.Upload.TheVariants.{Time, Absent}
+use Rattle.header.specs.declared.Upload.TheVariants.{Time}
 use Rattle.header.specs.declared.Header.{Header}
 use Rattle.header.specs.Items.{mandatory_items, known_items, decision_of, step_with, step_at, items_from}
 use Rattle.header.specs.Header.{header_sum, header_of, keeps_rules, read_header}
-use Rattle.header.specs.Editions.{under_both, alike}
-use Rattle.header.specs.Examples.{item_of, upload_as}
 use Rattle.frame.specs.declared.Entry.{Entry}
 use Rattle.frame.specs.Piece.{piece_checks, piece_fields, read_piece, piece_bytes}
 use Rattle.frame.specs.Entry.{entry_checks, entry_fields, read_entry, header_bytes}
 use Rattle.frame.specs.Figure.{figure33}
-use Rattle.frame.specs.Examples.{header32, without_upload}
 
 -- a frame from UOSAT5-11 to VA3SFL-0
 abbrev framed : ℕ → List ℕ → List ℕ
@@ -52,9 +48,9 @@ entry32 = framed 0xBD (figure32 ++ 0x9D ∷ 0x3D ∷ [])
 abbrev changed : ℕ → ℕ → List ℕ
 changed at b = framed 0xBD (with_check (set figure32 at b))
 
--- the values of figure 3.2's header, with the sum, the body's offset, the upload time and the header's length as given
-abbrev told32_by : ℕ → ℕ → Upload → ℕ → Header
-told32_by sum body upload size = record {
+-- the values of figure 3.2's header
+abbrev header32 : Header
+header32 = record {
   number = 0xAE67;
   name = record { c0 = 0x42; c1 = 0x4C; c2 = 0x39; c3 = 0x39; c4 = 0x31; c5 = 0x31; c6 = 0x32; c7 = 0x34 };
   extension = record { c0 = 0x20; c1 = 0x20; c2 = 0x20 };
@@ -64,38 +60,20 @@ told32_by sum body upload size = record {
   upset = 0x00;
   kind = 0xCA;
   bodysum = 0x44FB;
-  headersum = sum;
-  body = body;
-  upload = upload;
-  size = size;
+  headersum = 0x0C84;
+  body = 0x50;
+  upload = Time 0x383C7EE0;
+  size = 80;
 }
 
-abbrev told32 : Header
-told32 = told32_by 0x0C84 0x50 (Time 0x383C7EE0) 80
-
--- those of figure 3.2, with the flags and the header's values as given
-abbrev values32 : ℕ → Header → Entry
-values32 flags header = record { head = from_uosat5; flags = flags; number = 0xAE67; offset = 0; old = 0x383C7EE0; new = 0x383DCFEE; header = header }
-
--- figure 3.2 with another file header, the check made right
-abbrev heading : List ℕ → List ℕ
-heading header = framed 0xBD (with_check (take 17 figure32 ++ header))
-
--- its upload time, and figure 3.2 with a run in the place of item 12, the sum to match
-abbrev time : List ℕ
-time = 0xE0 ∷ 0x7E ∷ 0x3C ∷ 0x38 ∷ []
-
-abbrev upload : List ℕ → ℕ → List ℕ
-upload run sum = heading (upload_as header32 run sum)
-
--- what an entry is answered under both editions
-abbrev both : List ℕ → Answer Entry × Answer Entry
-both frame = under_both (λ edition. read_entry edition frame)
+-- those of figure 3.2, with the flags as given
+abbrev values32 : ℕ → Entry
+values32 flags = record { head = from_uosat5; flags = flags; number = 0xAE67; offset = 0; old = 0x383C7EE0; new = 0x383DCFEE; header = header32 }
 
 -- figure 3.2 with bytes that all differ in flags, number, times and item 01, and the sum to match
 abbrev entry_of_bytes : List ℕ
 entry_of_bytes =
-    0x60 ∷ 0x67 ∷ 0xAE ∷ 0x02 ∷ 0x01 ∷ 0x00 ∷ 0x00 ∷ 0x00 ∷ 0x00 ∷ 0x11 ∷ 0x12 ∷ 0x13 ∷ 0x14 ∷ 0x21 ∷ 0x22 ∷ 0x23 ∷ 0x24 ∷ [] ++ set (set (set header32 7 0x02) 8 0x01) 70 0x87
+    0x60 ∷ 0x67 ∷ 0xAE ∷ 0x02 ∷ 0x01 ∷ 0x00 ∷ 0x00 ∷ 0x00 ∷ 0x00 ∷ 0x11 ∷ 0x12 ∷ 0x13 ∷ 0x14 ∷ 0x21 ∷ 0x22 ∷ 0x23 ∷ 0x24 ∷ [] ++ set (set (set (drop 17 figure32) 7 0x02) 8 0x01) 70 0x87
 
 abbrev values_of_bytes : Entry
 values_of_bytes = record {
@@ -107,18 +85,18 @@ values_of_bytes = record {
   new = 0x24232221;
   header = record {
     number = 0x0102AE67;
-    name = told32.name;
-    extension = told32.extension;
-    length = told32.length;
-    created = told32.created;
-    modified = told32.modified;
-    upset = told32.upset;
-    kind = told32.kind;
-    bodysum = told32.bodysum;
+    name = header32.name;
+    extension = header32.extension;
+    length = header32.length;
+    created = header32.created;
+    modified = header32.modified;
+    upset = header32.upset;
+    kind = header32.kind;
+    bodysum = header32.bodysum;
     headersum = 0x0C87;
-    body = told32.body;
-    upload = told32.upload;
-    size = told32.size;
+    body = header32.body;
+    upload = header32.upload;
+    size = header32.size;
   };
 }
 
@@ -155,33 +133,26 @@ pub record Cases : Type 0 where
   pub information_of_256 : read_piece (framed 0xBB (with_check (nine 0x02 0x00 0x00 0x00 ++ replicate 245 0))) ≡ refused 7
   pub figure_3_3 : read_piece (framed 0xBB figure33) ≡ accepted (record { head = from_uosat5; number = 0xAE7E; kind = 0xC9; offset = 0 })
   pub figure_3_3_bytes : piece_bytes (framed 0xBB figure33) ≡ take 244 (drop 9 figure33)
-  pub figure_3_3_header : under_both (λ edition. read_header edition (piece_bytes (framed 0xBB figure33)) 0xAE7E) ≡ alike (accepted header33)
-  pub piece_as_entry : both (framed 0xBB figure33) ≡ alike (refused 4)
-  pub sum_of_figure_3_2 : header_sum header32 ≡ 0x0C84
-  pub figure_3_2 : both entry32 ≡ alike (accepted (values32 0x20 told32))
-  pub figure_3_2_header : under_both (λ edition. header_bytes edition entry32) ≡ alike header32
-  pub newest_file : both (changed 0 0x60) ≡ alike (accepted (values32 0x60 told32))
-  pub bit_5_clear : both (changed 0 0x00) ≡ alike (refused 14)
-  pub bit_5_clear_newest : both (changed 0 0x40) ≡ alike (refused 14)
-  pub bit_7_set : both (changed 0 0xA0) ≡ alike (refused 5)
-  pub bit_4_set : both (changed 0 0x30) ≡ alike (refused 5)
-  pub flags_before_whole : both (changed 0 0x01) ≡ alike (refused 5)
-  pub offset_not_0 : both (changed 8 0x01) ≡ alike (refused 14)
-  pub whole_before_header : both (framed 0xBD (with_check (0x00 ∷ take 16 (drop 1 figure32)))) ≡ alike (refused 14)
-  pub other_number : both (changed 1 0x68) ≡ alike (refused 8)
-  pub check_before_flags_of_entry : both (framed 0xBD (set figure32 0 0x21 ++ 0x9D ∷ 0x3D ∷ [])) ≡ alike (refused 6)
-  pub information_of_18 : both (framed 0xBD (with_check (take 16 figure32))) ≡ alike (refused 1)
-  pub information_of_19 : both (framed 0xBD (with_check (take 17 figure32))) ≡ alike (refused 8)
-  pub byte_behind_header : both (framed 0xBD (with_check (figure32 ++ 0x00 ∷ []))) ≡ alike (refused 8)
-  pub all_bytes_of_entry_told : both (framed 0xBD (with_check entry_of_bytes)) ≡ alike (accepted values_of_bytes)
-  pub no_header_of_refused : under_both (λ edition. header_bytes edition (changed 0 0x00)) ≡ alike []
-  pub upload_absent : both (heading without_upload) ≡ (accepted (values32 0x20 (told32_by 0x0A95 73 Absent 73)), refused 8)
-  pub header_of_old_alone : under_both (λ edition. header_bytes edition (heading without_upload)) ≡ (without_upload, [])
-  pub upload_twice : both (upload (item_of 0x12 0x00 (0x01 ∷ 0x00 ∷ 0x00 ∷ 0x00 ∷ []) ++ item_of 0x12 0x00 time) 0x0CA2) ≡ alike (refused 8)
-  pub upload_too_short : both (upload (item_of 0x12 0x00 (take 3 time)) 0x0C4A) ≡ alike (refused 8)
-  pub id_1200 : both (upload (item_of 0x00 0x12 time) 0x0C84) ≡ (accepted (values32 0x20 (told32_by 0x0C84 0x50 Absent 80)), refused 8)
-  pub id_0112 : both (upload (item_of 0x12 0x01 time) 0x0C85) ≡ (accepted (values32 0x20 (told32_by 0x0C85 0x50 Absent 80)), refused 8)
-  pub whole_before_upload : both (framed 0xBD (with_check (0x00 ∷ take 16 (drop 1 figure32) ++ without_upload))) ≡ alike (refused 14)
+  pub figure_3_3_header : read_header (piece_bytes (framed 0xBB figure33)) 0xAE7E ≡ accepted header33
+  pub piece_as_entry : read_entry (framed 0xBB figure33) ≡ refused 4
+  pub sum_of_figure_3_2 : header_sum (drop 17 figure32) ≡ 0x0C84
+  pub figure_3_2 : read_entry entry32 ≡ accepted (values32 0x20)
+  pub figure_3_2_header : header_bytes entry32 ≡ drop 17 figure32
+  pub newest_file : read_entry (changed 0 0x60) ≡ accepted (values32 0x60)
+  pub bit_5_clear : read_entry (changed 0 0x00) ≡ refused 14
+  pub bit_5_clear_newest : read_entry (changed 0 0x40) ≡ refused 14
+  pub bit_7_set : read_entry (changed 0 0xA0) ≡ refused 5
+  pub bit_4_set : read_entry (changed 0 0x30) ≡ refused 5
+  pub flags_before_whole : read_entry (changed 0 0x01) ≡ refused 5
+  pub offset_not_0 : read_entry (changed 8 0x01) ≡ refused 14
+  pub whole_before_header : read_entry (framed 0xBD (with_check (0x00 ∷ take 16 (drop 1 figure32)))) ≡ refused 14
+  pub other_number : read_entry (changed 1 0x68) ≡ refused 8
+  pub check_before_flags_of_entry : read_entry (framed 0xBD (set figure32 0 0x21 ++ 0x9D ∷ 0x3D ∷ [])) ≡ refused 6
+  pub information_of_18 : read_entry (framed 0xBD (with_check (take 16 figure32))) ≡ refused 1
+  pub information_of_19 : read_entry (framed 0xBD (with_check (take 17 figure32))) ≡ refused 8
+  pub byte_behind_header : read_entry (framed 0xBD (with_check (figure32 ++ 0x00 ∷ []))) ≡ refused 8
+  pub all_bytes_of_entry_told : read_entry (framed 0xBD (with_check entry_of_bytes)) ≡ accepted values_of_bytes
+  pub no_header_of_refused : header_bytes (changed 0 0x00) ≡ []
 
 pub cases : Cases
 unfolding first_of put_in with_bit with_bits message_bits remainder_of check_right figure32 is_name address_at well_formed head_checks head_of mandatory_items known_items decision_of step_with step_at items_from header_sum header_of keeps_rules read_header piece_checks piece_fields read_piece entry_checks entry_fields read_entry figure33
@@ -220,11 +191,4 @@ cases = record {
   byte_behind_header = refl;
   all_bytes_of_entry_told = refl;
   no_header_of_refused = refl;
-  upload_absent = refl;
-  header_of_old_alone = refl;
-  upload_twice = refl;
-  upload_too_short = refl;
-  id_1200 = refl;
-  id_0112 = refl;
-  whole_before_upload = refl;
 }

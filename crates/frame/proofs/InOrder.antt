@@ -4,7 +4,6 @@ use mathlib.Core.List.{List}
 use Prim.Native.Nat.{ℕ}
 use Rattle.reason.specs.Order.{Exactly}
 use Rattle.reason.proofs.OrderLaws.{exactly}
-use Rattle.header.specs.declared.Edition.{Edition}
 use Rattle.frame.specs.Piece.{piece_order, piece_of, read_piece}
 use Rattle.frame.specs.Entry.{entry_order, entry_of, read_entry}
 
@@ -12,6 +11,6 @@ pub read_piece_in_order : (frame : List ℕ) → Exactly (piece_order frame) (pi
 unfolding read_piece
 read_piece_in_order frame = exactly (piece_order frame) (piece_of frame)
 
-pub read_entry_in_order : (edition : Edition) (frame : List ℕ) → Exactly (entry_order edition frame) (entry_of frame) (read_entry edition frame)
+pub read_entry_in_order : (frame : List ℕ) → Exactly (entry_order frame) (entry_of frame) (read_entry frame)
 unfolding read_entry
-read_entry_in_order edition frame = exactly (entry_order edition frame) (entry_of frame)
+read_entry_in_order frame = exactly (entry_order frame) (entry_of frame)

@@ -4,6 +4,5 @@ pub mod EntryLaws
 pub mod Says
 pub mod InOrder
 pub mod OnlyOne
-pub mod Editions
 pub mod Cases
 pub mod RoundTrip

@@ -5,7 +5,6 @@ use mathlib.Core.List.{List}
 use Prim.Native.Nat.{ℕ}
 use Rattle.reason.specs.Answer.{Answer, accepted, refused}
 use Rattle.reason.proofs.OnlyOne.{only_one, only_one_meant}
-use Rattle.header.specs.declared.Edition.{Edition}
 use Rattle.frame.specs.declared.Piece.{Piece}
 use Rattle.frame.specs.declared.PieceRead.{PieceRead}
 use Rattle.frame.specs.declared.PieceRead.TheVariants as piece
@@ -46,13 +45,12 @@ unfolding entry_case
 entry_back (entry.Accepted e) = refl
 entry_back (entry.Refused n) = refl
 
-pub only_one_entry : (edition : Edition) (frame : List ℕ) (r q : EntryRead) → entry_answer r ≡ read_entry edition frame
-    → entry_answer q ≡ read_entry edition frame → r ≡ q
-only_one_entry edition frame r q = only_one_meant entry_answer entry_case entry_back r q
+pub only_one_entry : (frame : List ℕ) (r q : EntryRead) → entry_answer r ≡ read_entry frame → entry_answer q ≡ read_entry frame → r ≡ q
+only_one_entry frame r q = only_one_meant entry_answer entry_case entry_back r q
 
 -- `header_bytes` and `header_of`
-pub only_one_header_bytes : (edition : Edition) (frame r q : List ℕ) → r ≡ header_bytes edition frame → q ≡ header_bytes edition frame → r ≡ q
-only_one_header_bytes edition frame r q = only_one r q
+pub only_one_header_bytes : (frame r q : List ℕ) → r ≡ header_bytes frame → q ≡ header_bytes frame → r ≡ q
+only_one_header_bytes frame r q = only_one r q
 
 pub only_one_header_of : (frame : List ℕ) (read : EntryRead) (r q : List ℕ) → r ≡ header_bytes_read (entry_answer read) frame
     → q ≡ header_bytes_read (entry_answer read) frame → r ≡ q

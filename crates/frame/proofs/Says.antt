@@ -19,7 +19,6 @@ use Rattle.octets.proofs.NumberLaws.{number_drop}
 use Rattle.remainder.specs.Check.{check_length}
 use Rattle.ax25.specs.Head.{head_length, head_checks, head_of}
 use Rattle.ax25.proofs.HeadLaws.{head_says}
-use Rattle.header.specs.declared.Edition.{Edition}
 use Rattle.header.specs.Header.{header_length, header_of, keeps_rules}
 use Rattle.header.specs.Rules.{Rules}
 use Rattle.header.proofs.RulesKept.{kept}
@@ -77,21 +76,21 @@ piece_says frame p e =
     }
 
 -- an accepted directory entry
-pub entry_says : (edition : Edition) (frame : List ℕ) (e : Entry) → read_entry edition frame ≡ accepted e → EntrySays edition frame e
+pub entry_says : (frame : List ℕ) (e : Entry) → read_entry frame ≡ accepted e → EntrySays frame e
 unfolding read_entry entry_checks entry_fields
-entry_says edition frame e r =
+entry_says frame e r =
     let s = information_of frame in
-    let two = both_accept (head_checks directory_protocol frame) (entry_checks edition s) (head_of frame) (entry_of frame) e r in
-    let all = accepted_only_if (entry_checks edition s) (entry_of frame) e two.1 in
+    let two = both_accept (head_checks directory_protocol frame) (entry_checks s) (head_of frame) (entry_of frame) e r in
+    let all = accepted_only_if (entry_checks s) (entry_of frame) e two.1 in
     let none = all.0 in
     let is : e ≡ entry_of frame = all.1 in
     let f = byte_at s 0 in
     let flagged : flags_allowed f ≡ true = not-false (flags_allowed f) none.1.1.0 in
     let whole : header_whole f (number_at 4 s 5) ≡ true = not-false (header_whole f (number_at 4 s 5)) none.1.1.1.0 in
-    let right : header_right edition s ≡ true = not-false (header_right edition s) none.1.1.1.1.0 in
-    let k = keeps_rules edition (header_part s) (number_at 4 s 1) in
+    let right : header_right s ≡ true = not-false (header_right s) none.1.1.1.1.0 in
+    let k = keeps_rules (header_part s) (number_at 4 s 1) in
     let a = eqb (header_length (header_part s)) (length (header_part s)) in
-    let part : header_bytes edition frame ≡ header_part s = ap (λ (x : Answer Entry). header_bytes_read x frame) r in
+    let part : header_bytes frame ≡ header_part s = ap (λ (x : Answer Entry). header_bytes_read x frame) r in
     rw is (record {
       head = head_says directory_protocol frame (head_of frame) two.0;
       flags = byte_in frame 0;
@@ -103,15 +102,14 @@ entry_says edition frame e r =
       new = number_in 4 frame 13;
       checked = not-false _ none.1.0;
       bytes = part;
-      header = rw part (header_says edition (header_part s) (number_at 4 s 1) (header_of (header_part s)) (reads_header edition (header_part s) (number_at 4 s 1) (and_left k a right)));
+      header = rw part (header_says (header_part s) (number_at 4 s 1) (header_of (header_part s)) (reads_header (header_part s) (number_at 4 s 1) (and_left k a right)));
       alone = told_size (header_part s) ∙ eqb-true _ _ (and_right k a right) ∙ ap length (sym part);
     })
 
 -- No frame is both: the protocol tells a piece and an entry apart. (A piece and a request share the protocol; there the flags do:
 -- a piece's are 02.)
-pub not_piece_and_entry : (edition : Edition) (frame : List ℕ) (p : Piece) (e : Entry) → read_piece frame ≡ accepted p
-    → read_entry edition frame ≡ accepted e → ⊥
-not_piece_and_entry edition frame p e x y = omega (arith, (piece_says frame p x).head.of_protocol, (entry_says edition frame e y).head.of_protocol)
+pub not_piece_and_entry : (frame : List ℕ) (p : Piece) (e : Entry) → read_piece frame ≡ accepted p → read_entry frame ≡ accepted e → ⊥
+not_piece_and_entry frame p e x y = omega (arith, (piece_says frame p x).head.of_protocol, (entry_says frame e y).head.of_protocol)
 
 -- one of the checks with a number holds
 abbrev any_with : ℕ → List Check → Bool
@@ -123,42 +121,42 @@ first_any n (check b m ∷ checks) (inl f) =
     ap₂ (λ (x y : Bool). x && y || any_with n checks) (eq-eqb m n f.1) f.0
 first_any n (check b m ∷ checks) (inr f) = ap (λ (x : Bool). eqb m n && b || x) (first_any n checks f.1) ∙ or-true (eqb m n && b)
 
-eight_is : (edition : Edition) (frame : List ℕ) → read_entry edition frame ≡ refused 8 → (not (header_right edition (information_of frame)) || false) ≡ true
+eight_is : (frame : List ℕ) → read_entry frame ≡ refused 8 → (not (header_right (information_of frame)) || false) ≡ true
 unfolding head_checks entry_checks
-eight_is edition frame e = first_any 8 (entry_order edition frame) ((read_entry_in_order edition frame).refuses_only_if 8 e)
+eight_is frame e = first_any 8 (entry_order frame) ((read_entry_in_order frame).refuses_only_if 8 e)
 
 -- An entry is refused 8 only where its header breaks a rule, or something follows it.
-pub eight_says : (edition : Edition) (frame : List ℕ) → read_entry edition frame ≡ refused 8
-    → Rules edition (header_part (information_of frame)) (number_at 4 (information_of frame) 1)
+pub eight_says : (frame : List ℕ) → read_entry frame ≡ refused 8
+    → Rules (header_part (information_of frame)) (number_at 4 (information_of frame) 1)
     → header_length (header_part (information_of frame)) ≡ length (header_part (information_of frame)) → ⊥
-eight_says edition frame e r l =
+eight_says frame e r l =
     let i = information_of frame in
-    let h : header_right edition i ≡ true = ap₂ ◌&&◌ (kept edition (header_part i) (number_at 4 i 1) r) (eq-eqb (header_length (header_part i)) (length (header_part i)) l) in
-    false≢true (sym (ap (λ (b : Bool). not b || false) h) ∙ eight_is edition frame e)
+    let h : header_right i ≡ true = ap₂ ◌&&◌ (kept (header_part i) (number_at 4 i 1) r) (eq-eqb (header_length (header_part i)) (length (header_part i)) l) in
+    false≢true (sym (ap (λ (b : Bool). not b || false) h) ∙ eight_is frame e)
 
 -- An entry that keeps every rule is accepted, with its fields ..
-pub entry_is_read : (edition : Edition) (frame : List ℕ) → EntryRules edition frame → read_entry edition frame ≡ accepted (entry_of frame)
+pub entry_is_read : (frame : List ℕ) → EntryRules frame → read_entry frame ≡ accepted (entry_of frame)
 unfolding read_entry
-entry_is_read edition frame k =
+entry_is_read frame k =
     let i = information_of frame in
     let flags : byte_at i 0 ≡ byte_at frame 16 = byte_in frame 0 in
     let number : number_at 4 i 1 ≡ number_at 4 frame 17 = number_in 4 frame 1 in
     let offset : number_at 4 i 5 ≡ number_at 4 frame 21 = number_in 4 frame 5 in
-    accepted_then (head_checks directory_protocol frame) (entry_checks edition i) (head_of frame) (head_of frame) (entry_of frame) k.headed
-    ∙ reads_entry edition i (entry_of frame) (omega (arith, length-drop 16 frame, k.long)) k.checked
+    accepted_then (head_checks directory_protocol frame) (entry_checks i) (head_of frame) (head_of frame) (entry_of frame) k.headed
+    ∙ reads_entry i (entry_of frame) (omega (arith, length-drop 16 frame, k.long)) k.checked
     (ap flags_allowed flags ∙ and_both _ _ (eq-eqb (byte_at frame 16 % 32) 0 k.allowed.0) (eq-eqb (byte_at frame 16 / 128) 0 k.allowed.1))
     (ap₂ header_whole flags offset ∙ and_both _ _ (eq-eqb (byte_at frame 16 / 32 % 2) 1 k.whole.0) (eq-eqb (number_at 4 frame 21) 0 k.whole.1))
-    (ap₂ ◌&&◌ (ap (keeps_rules edition (header_part i)) number ∙ kept edition (header_part i) (number_at 4 frame 17) k.ruled)
+    (ap₂ ◌&&◌ (ap (keeps_rules (header_part i)) number ∙ kept (header_part i) (number_at 4 frame 17) k.ruled)
     (eq-eqb (header_length (header_part i)) (length (header_part i)) k.alone))
 
 -- .. and every accepted entry keeps them.
-pub accepted_entry_keeps : (edition : Edition) (frame : List ℕ) (e : Entry) → read_entry edition frame ≡ accepted e → EntryRules edition frame
+pub accepted_entry_keeps : (frame : List ℕ) (e : Entry) → read_entry frame ≡ accepted e → EntryRules frame
 unfolding read_entry entry_checks
-accepted_entry_keeps edition frame e r =
+accepted_entry_keeps frame e r =
     let s = information_of frame in
-    let two = both_accept (head_checks directory_protocol frame) (entry_checks edition s) (head_of frame) (entry_of frame) e r in
-    let none = (accepted_only_if (entry_checks edition s) (entry_of frame) e two.1).0 in
-    let says = entry_says edition frame e r in
+    let two = both_accept (head_checks directory_protocol frame) (entry_checks s) (head_of frame) (entry_of frame) e r in
+    let none = (accepted_only_if (entry_checks s) (entry_of frame) e two.1).0 in
+    let says = entry_says frame e r in
     let least : before_header + check_length ≤ length s = ltb-false (length s) (before_header + check_length) none.0 in
     record {
       headed = two.0;

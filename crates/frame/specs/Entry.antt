@@ -1,4 +1,4 @@
--- A directory entry (01, "Frame"; 02, C-15): flags (1), number (4), offset (4), time old (4), time new (4), header, check.
+-- A directory entry (01, "Frame"): flags (1), number (4), offset (4), time old (4), time new (4), header, check.
 -- Assumes nothing.
 use Rattle.std.specs.Prelude.{Bool, not, ◌&&◌, List, [], ◌∷◌, ◌++◌, ℕ, ◌+◌, ◌-◌, ◌/◌, ◌%◌, ltb, eqb, length, take, drop}
 use Rattle.reason.specs.Answer.{Answer, accepted, refused}
@@ -7,7 +7,6 @@ use Rattle.octets.specs.Numbers.{byte_at, number_at}
 use Rattle.remainder.specs.Check.{check_length, check_right}
 use Rattle.ax25.specs.declared.Head.{Head}
 use Rattle.ax25.specs.Head.{head_checks, head_of}
-use Rattle.header.specs.declared.Edition.{Edition}
 use Rattle.header.specs.Header.{header_length, header_of, keeps_rules}
 use Rattle.frame.specs.declared.Entry.{Entry}
 use Rattle.frame.specs.declared.EntryRead.{EntryRead}
@@ -30,18 +29,18 @@ header_whole flags offset = eqb (flags / 32 % 2) 1 && eqb offset 0
 abbrev pub header_part : List ℕ → List ℕ
 header_part s = take (length s - check_length - before_header) (drop before_header s)
 
--- they are a header of the file with the entry's number, by the rules of the edition, and nothing follows its end
-abbrev pub header_right : Edition → List ℕ → Bool
-header_right edition s = keeps_rules edition (header_part s) (number_at 4 s 1) && eqb (header_length (header_part s)) (length (header_part s))
+-- they are a header of the file with the entry's number, and nothing follows its end
+abbrev pub header_right : List ℕ → Bool
+header_right s = keeps_rules (header_part s) (number_at 4 s 1) && eqb (header_length (header_part s)) (length (header_part s))
 
 -- "Order in a frame", of the information of an entry: 1 (information), 6, 5, 14, 8
-unfoldable pub entry_checks : Edition → List ℕ → List Check
-entry_checks edition s =
+unfoldable pub entry_checks : List ℕ → List Check
+entry_checks s =
     check (ltb (length s) (before_header + check_length)) 1
     ∷ check (not (check_right s)) 6
     ∷ check (not (flags_allowed (byte_at s 0))) 5
     ∷ check (not (header_whole (byte_at s 0) (number_at 4 s 5))) 14
-    ∷ check (not (header_right edition s)) 8
+    ∷ check (not (header_right s)) 8
     ∷ []
 
 -- what the information of an entry says, behind a head
@@ -57,16 +56,16 @@ entry_fields head s = record {
 }
 
 -- all reasons of an entry in their order
-abbrev pub entry_order : Edition → List ℕ → List Check
-entry_order edition frame = head_checks directory_protocol frame ++ entry_checks edition (information_of frame)
+abbrev pub entry_order : List ℕ → List Check
+entry_order frame = head_checks directory_protocol frame ++ entry_checks (information_of frame)
 
 -- what an entry says: both addresses, all its fields, and the values of its header
 abbrev pub entry_of : List ℕ → Entry
 entry_of frame = entry_fields (head_of frame) (information_of frame)
 
--- reading a frame as a directory entry, its header by the rules of an edition
-unfoldable pub read_entry : Edition → List ℕ → Answer Entry
-read_entry edition frame = first_of (entry_order edition frame) (entry_of frame)
+-- reading a frame as a directory entry
+unfoldable pub read_entry : List ℕ → Answer Entry
+read_entry frame = first_of (entry_order frame) (entry_of frame)
 
 -- the header of an entry that was read: no bytes if it was refused
 abbrev pub header_bytes_read : Answer Entry → List ℕ → List ℕ
@@ -74,8 +73,8 @@ header_bytes_read (accepted e) frame = header_part (information_of frame)
 header_bytes_read (refused n) frame = []
 
 -- an entry's file header itself
-abbrev pub header_bytes : Edition → List ℕ → List ℕ
-header_bytes edition frame = header_bytes_read (read_entry edition frame) frame
+abbrev pub header_bytes : List ℕ → List ℕ
+header_bytes frame = header_bytes_read (read_entry frame) frame
 
 -- the paper's number and values for each case of `read_entry`'s answer
 abbrev pub entry_answer : EntryRead → Answer Entry

@@ -3,5 +3,3 @@ pub mod Entry
 pub mod Making
 pub mod Figure
 pub mod Says
-pub mod Editions
-pub mod Examples

@@ -1,4 +1,4 @@
-// The information of a directory entry, whose header is read under an edition.
+// The information of a directory entry.
 ghost use Rattle.std.specs.Prelude.{◌≡◌};
 ghost use Rattle.reason.specs.Order.{first_of};
 ghost use Rattle.ax25.specs.Information.{information_of};
@@ -6,7 +6,7 @@ ghost use Rattle.frame.specs.Entry.{flags_allowed, header_whole, entry_checks, e
 
 use super::{CHECK_LENGTH, Entry, EntryRead, HEADER_AT};
 use ax25::Head;
-use header::{Edition, HeaderRead};
+use header::HeaderRead;
 
 // How many bytes stand before the file header: flags, number, offset, time old and time new.
 pub(crate) const BEFORE_HEADER: usize = 17;
@@ -17,10 +17,9 @@ const LEAST: usize = BEFORE_HEADER + CHECK_LENGTH;
 
 const NO_HEADER: usize = HEADER_AT + CHECK_LENGTH;
 
-// Reads the information of a frame with the head, its header by the rules of the edition; refuses 1, 6,
-// 5, 14, 8.
-pub(crate) fn read(s: &[u8], head: Head, edition: Edition) -> EntryRead
-    ensures { entry_answer result ≡ first_of (entry_checks edition s.now) (entry_fields head s.now) }
+// Reads the information of a frame with the head; refuses 1, 6, 5, 14, 8.
+pub(crate) fn read(s: &[u8], head: Head) -> EntryRead
+    ensures { entry_answer result ≡ first_of (entry_checks s.now) (entry_fields head s.now) }
 {
     if s.len() < LEAST {
         return EntryRead::Refused(1);
@@ -40,8 +39,7 @@ pub(crate) fn read(s: &[u8], head: Head, edition: Edition) -> EntryRead
     let old = octets::number4(s, 9);
     let new = octets::number4(s, 13);
     let end = s.len() - CHECK_LENGTH;
-    let HeaderRead::Accepted(header) = header::read_header(&s[BEFORE_HEADER..end], number, edition)
-    else {
+    let HeaderRead::Accepted(header) = header::read_header(&s[BEFORE_HEADER..end], number) else {
         return EntryRead::Refused(8);
     };
     if header.size != end - BEFORE_HEADER {

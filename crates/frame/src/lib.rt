@@ -4,9 +4,8 @@
 // order 1 (below 16), 2, 3, 4, 7 (over 255), 1 (information), 6, 5, 14, 7 (no data), 8, of which a piece
 // has no 14 and 8 and an entry no 7 (no data). The piece itself and an entry's header are handed out
 // as parts of the frame. The contracts cite `specs/Piece.antt` and `specs/Entry.antt`. That each reason
-// is given exactly when it is first is in `proofs/InOrder.antt`, what an accepted frame says of its
-// bytes in `proofs/Says.antt`, and what the two editions of an entry's header have to do with each other
-// in `proofs/Editions.antt`.
+// is given exactly when it is first is in `proofs/InOrder.antt`, and what an accepted frame says of its
+// bytes in `proofs/Says.antt`.
 mod entries;
 mod pieces;
 
@@ -16,7 +15,7 @@ ghost use Rattle.frame.specs.Entry.{entry_answer, read_entry, header_bytes, head
 
 use ax25::{DIRECTORY_PROTOCOL, FILE_PROTOCOL, HEAD_LENGTH, Head, HeadRead};
 use entries::BEFORE_HEADER;
-use header::{Edition, Header};
+use header::Header;
 use pieces::BEFORE_DATA;
 
 // Where the bytes of a piece start in its frame: behind the head and the nine header bytes.
@@ -96,23 +95,23 @@ pub fn piece_of(frame: &[u8], read: PieceRead) -> &[u8]
     }
 }
 
-// Reads a frame as a directory entry, its header by the rules of the edition; refuses 1 (below 16), 2, 3,
-// 4, 7 (over 255), 1 (information), 6, 5, 14, 8.
-pub fn read_entry(frame: &[u8], edition: Edition) -> EntryRead
-    ensures { entry_answer result ≡ read_entry edition frame.now }
+// Reads a frame as a directory entry; refuses 1 (below 16), 2, 3, 4, 7 (over 255), 1 (information), 6,
+// 5, 14, 8.
+pub fn read_entry(frame: &[u8]) -> EntryRead
+    ensures { entry_answer result ≡ read_entry frame.now }
 {
     match ax25::read_head(frame, DIRECTORY_PROTOCOL) {
-        HeadRead::Accepted(head) => entries::read(&frame[HEAD_LENGTH..], head, edition),
+        HeadRead::Accepted(head) => entries::read(&frame[HEAD_LENGTH..], head),
         HeadRead::Refused(n) => EntryRead::Refused(n),
     }
 }
 
 // An entry's file header: the frame's own bytes between time new and the two check bytes, in which
-// `header::item_bytes` finds an item's data. Of a frame that the edition refuses it is the empty part.
-pub fn header_bytes(frame: &[u8], edition: Edition) -> &[u8]
-    ensures { result.now ≡ header_bytes edition frame.now }
+// `header::item_bytes` finds an item's data. Of a frame that is refused it is the empty part.
+pub fn header_bytes(frame: &[u8]) -> &[u8]
+    ensures { result.now ≡ header_bytes frame.now }
 {
-    let read = read_entry(frame, edition);
+    let read = read_entry(frame);
     header_of(frame, read)
 }
 

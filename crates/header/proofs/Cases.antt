@@ -1,4 +1,4 @@
--- Figure 3.1 as a header, and headers that differ from it in one rule, the sum worked out anew, under both editions, by computation.
+-- Figure 3.1 as a header, and headers that differ from it in one rule, the sum worked out anew, by computation.
 -- Assumes nothing.
 use mathlib.Core.Path.{◌≡◌, refl}
 use mathlib.Core.List.{List, [], ◌∷◌, ◌++◌}
@@ -19,8 +19,6 @@ use Rattle.header.specs.Items.{mandatory_items, known_items, decision_of, step_w
 use Rattle.header.specs.Header.{header_sum, header_of, keeps_rules, read_header}
 use Rattle.header.specs.Data.{data_of}
 use Rattle.header.specs.Figure.{figure31}
-use Rattle.header.specs.Editions.{under_both, alike}
-use Rattle.header.specs.Examples.{item_of, upload_as}
 
 -- its items, one after the other
 abbrev items31 : Items
@@ -67,20 +65,29 @@ unordered = take 2 figure31 ++ take 68 (drop 9 figure31) ++ take 7 (drop 2 figur
 abbrev two_others : List ℕ
 two_others = 0xAA ∷ 0x55 ∷ 0x30 ∷ 0x00 ∷ 0x01 ∷ 0x41 ∷ 0x30 ∷ 0x00 ∷ 0x02 ∷ 0x42 ∷ 0x43 ∷ []
 
--- its upload time, and figure 3.1 with a run in the place of item 12, the sum to match
-abbrev time : List ℕ
-time = 0xD6 ∷ 0xB0 ∷ 0x4D ∷ 0x38 ∷ []
-
-abbrev upload : List ℕ → ℕ → List ℕ
-upload = upload_as figure31
+-- figure 3.1 with item 12's id as given and the sum to match: other items of four bytes in its place
+abbrev twelve : ℕ → ℕ → ℕ → List ℕ
+twelve low high sum = set (set (set figure31 47 low) 48 high) 70 sum
 
 -- with item 0B as given, and the sum to match
 abbrev body : ℕ → ℕ → ℕ → List ℕ
 body low high sum = set (set (set figure31 75 low) 76 high) 70 sum
 
+-- without item 12: 73 bytes
+abbrev without_twelve : List ℕ
+without_twelve = set (set (set (take 47 figure31 ++ drop 54 figure31) 68 73) 63 0x8E) 64 0x0B
+
+-- with item 12 twice: 87 bytes
+abbrev twice_twelve : List ℕ
+twice_twelve = set (set (take 47 figure31 ++ 0x12 ∷ 0x00 ∷ 0x04 ∷ 0x01 ∷ 0x00 ∷ 0x00 ∷ 0x00 ∷ [] ++ drop 47 figure31) 82 87) 77 0xD4
+
 -- with two bytes of data in item 07: 81 bytes
 abbrev long_seven : List ℕ
 long_seven = set (set (take 56 figure31 ++ 0x02 ∷ 0x00 ∷ [] ++ drop 57 figure31) 76 81) 71 0xB8
+
+-- with three bytes of data in item 12: 79 bytes
+abbrev short_twelve : List ℕ
+short_twelve = set (set (take 49 figure31 ++ 0x03 ∷ [] ++ take 3 (drop 50 figure31) ++ drop 54 figure31) 74 79) 69 0x7C
 
 -- the values of figure 3.1, with the body offset, the sum, the upload time and the header's length as given
 abbrev values : ℕ → ℕ → Upload → ℕ → Header
@@ -118,58 +125,50 @@ told = record {
   size = 80;
 }
 
--- what a header is answered under both editions
-abbrev both : List ℕ → ℕ → Answer Header × Answer Header
-both s number = under_both (λ edition. read_header edition s number)
-
 -- what figure 3.1 is answered without each of the mandatory items in turn
-abbrev answers : List (Answer Header × Answer Header)
+abbrev answers : List (Answer Header)
 answers =
-    both (missing 2 0xE5) 0x21E0
-    ∷ both (missing 9 0xE4) 0x21E0
-    ∷ both (missing 20 0xE3) 0x21E0
-    ∷ both (missing 26 0xE2) 0x21E0
-    ∷ both (missing 33 0xE1) 0x21E0
-    ∷ both (missing 40 0xE0) 0x21E0
-    ∷ both (missing 54 0xDF) 0x21E0
-    ∷ both (missing 58 0xDE) 0x21E0
-    ∷ both (missing 62 0xDD) 0x21E0
-    ∷ both (missing 67 0xDC) 0x21E0
-    ∷ both (missing 72 0xDB) 0x21E0
+    read_header (missing 2 0xE5) 0x21E0
+    ∷ read_header (missing 9 0xE4) 0x21E0
+    ∷ read_header (missing 20 0xE3) 0x21E0
+    ∷ read_header (missing 26 0xE2) 0x21E0
+    ∷ read_header (missing 33 0xE1) 0x21E0
+    ∷ read_header (missing 40 0xE0) 0x21E0
+    ∷ read_header (missing 54 0xDF) 0x21E0
+    ∷ read_header (missing 58 0xDE) 0x21E0
+    ∷ read_header (missing 62 0xDD) 0x21E0
+    ∷ read_header (missing 67 0xDC) 0x21E0
+    ∷ read_header (missing 72 0xDB) 0x21E0
     ∷ []
 
 pub record Cases : Type 0 where
   pub sum_of_figure_3_1 : header_sum figure31 ≡ 0x0DB6
-  pub figure_3_1 : both figure31 0x21E0 ≡ alike (accepted (values 0x50 0x0DB6 (Time 0x384DB0D6) 80))
-  pub body_behind : both (figure31 ++ 0x00 ∷ 0x23 ∷ 0x30 ∷ []) 0x21E0 ≡ alike (accepted (values 0x50 0x0DB6 (Time 0x384DB0D6) 80))
+  pub figure_3_1 : read_header figure31 0x21E0 ≡ accepted (values 0x50 0x0DB6 (Time 0x384DB0D6) 80)
+  pub body_behind : read_header (figure31 ++ 0x00 ∷ 0x23 ∷ 0x30 ∷ []) 0x21E0 ≡ accepted (values 0x50 0x0DB6 (Time 0x384DB0D6) 80)
   pub items_of_figure_3_1 : items figure31 ≡ items31
-  pub all_bytes_told : both of_bytes 0x04030201 ≡ alike (accepted told)
-  pub sum_beyond_16_bits : both beyond_16_bits 0x21E0 ≡ alike (accepted (values 596 0x8D9B (Time 0x384DB0D6) 596))
-  pub any_order : both unordered 0x21E0 ≡ alike (accepted (values 0x50 0x0DB6 (Time 0x384DB0D6) 80))
-  pub other_number : both figure31 0x21E1 ≡ alike (refused 8)
-  pub marker_wrong : both (set (set figure31 0 0xAB) 70 0xB7) 0x21E0 ≡ alike (refused 8)
-  pub marker_wrong_behind : both (set (set figure31 1 0x54) 70 0xB5) 0x21E0 ≡ alike (refused 8)
-  pub no_bytes : both [] 0x21E0 ≡ alike (refused 8)
-  pub cut_in_end_item : both (take 79 figure31) 0x21E0 ≡ alike (refused 8)
-  pub cut_before_end_item : both (take 77 figure31) 0x21E0 ≡ alike (refused 8)
-  pub end_item_of_one : both (set (set figure31 79 0x01) 70 0xB7 ++ 0x00 ∷ []) 0x21E0 ≡ alike (refused 8)
-  pub upload_absent : both (upload [] 0x0B8E) 0x21E0 ≡ (accepted (values 73 0x0B8E Absent 73), refused 8)
-  pub other_item : both (upload (item_of 0x30 0x00 time) 0x0DD4) 0x21E0 ≡ (accepted (values 0x50 0x0DD4 Absent 80), refused 8)
-  pub upload_as_in_the_figure : upload (item_of 0x12 0x00 time) 0x0DB6 ≡ figure31
-  pub id_0112 : both (upload (item_of 0x12 0x01 time) 0x0DB7) 0x21E0 ≡ (accepted (values 0x50 0x0DB7 Absent 80), refused 8)
-  pub id_1200 : both (upload (item_of 0x00 0x12 time) 0x0DB6) 0x21E0 ≡ (accepted (values 0x50 0x0DB6 Absent 80), refused 8)
-  pub item_twice : both (upload (item_of 0x05 0x00 time) 0x0DA9) 0x21E0 ≡ alike (refused 8)
-  pub item_missing : answers ≡ replicate 11 (alike (refused 8))
-  pub item_beside : both beside_five 0x21E0 ≡ alike (refused 8)
-  pub upload_twice : both (upload (item_of 0x12 0x00 (0x01 ∷ 0x00 ∷ 0x00 ∷ 0x00 ∷ []) ++ item_of 0x12 0x00 time) 0x0DD4) 0x21E0 ≡ alike (refused 8)
-  pub item_too_long : both long_seven 0x21E0 ≡ alike (refused 8)
-  pub upload_too_short : both (upload (item_of 0x12 0x00 (take 3 time)) 0x0D7C) 0x21E0 ≡ alike (refused 8)
-  pub upload_too_long : both (upload (item_of 0x12 0x00 (time ++ 0x00 ∷ [])) 0x0DB8) 0x21E0 ≡ alike (refused 8)
-  pub upload_beside : both (upload (item_of 0x12 0x00 [] ++ item_of 0x12 0x00 time) 0x0DCB) 0x21E0 ≡ alike (refused 8)
-  pub body_in_header : both (body 0x4F 0x00 0xB5) 0x21E0 ≡ alike (refused 8)
-  pub body_at_end_of_file : both (body 0x4E 0x0B 0xBF) 0x21E0 ≡ alike (accepted (values 0x0B4E 0x0DBF (Time 0x384DB0D6) 80))
-  pub body_beyond_file : both (body 0x4F 0x0B 0xC0) 0x21E0 ≡ alike (refused 8)
-  pub sum_over_itself : both (set (set figure31 70 0x79) 71 0x0E) 0x21E0 ≡ alike (refused 8)
+  pub all_bytes_told : read_header of_bytes 0x04030201 ≡ accepted told
+  pub sum_beyond_16_bits : read_header beyond_16_bits 0x21E0 ≡ accepted (values 596 0x8D9B (Time 0x384DB0D6) 596)
+  pub any_order : read_header unordered 0x21E0 ≡ accepted (values 0x50 0x0DB6 (Time 0x384DB0D6) 80)
+  pub other_number : read_header figure31 0x21E1 ≡ refused 8
+  pub marker_wrong : read_header (set (set figure31 0 0xAB) 70 0xB7) 0x21E0 ≡ refused 8
+  pub marker_wrong_behind : read_header (set (set figure31 1 0x54) 70 0xB5) 0x21E0 ≡ refused 8
+  pub no_bytes : read_header [] 0x21E0 ≡ refused 8
+  pub cut_in_end_item : read_header (take 79 figure31) 0x21E0 ≡ refused 8
+  pub cut_before_end_item : read_header (take 77 figure31) 0x21E0 ≡ refused 8
+  pub end_item_of_one : read_header (set (set figure31 79 0x01) 70 0xB7 ++ 0x00 ∷ []) 0x21E0 ≡ refused 8
+  pub upload_absent : read_header without_twelve 0x21E0 ≡ accepted (values 73 0x0B8E Absent 73)
+  pub other_item : read_header (twelve 0x30 0x00 0xD4) 0x21E0 ≡ accepted (values 0x50 0x0DD4 Absent 80)
+  pub id_has_two_bytes : read_header (twelve 0x12 0x01 0xB7) 0x21E0 ≡ accepted (values 0x50 0x0DB7 Absent 80)
+  pub item_twice : read_header (twelve 0x05 0x00 0xA9) 0x21E0 ≡ refused 8
+  pub item_missing : answers ≡ replicate 11 (refused 8)
+  pub item_beside : read_header beside_five 0x21E0 ≡ refused 8
+  pub upload_twice : read_header twice_twelve 0x21E0 ≡ refused 8
+  pub item_too_long : read_header long_seven 0x21E0 ≡ refused 8
+  pub upload_too_short : read_header short_twelve 0x21E0 ≡ refused 8
+  pub body_in_header : read_header (body 0x4F 0x00 0xB5) 0x21E0 ≡ refused 8
+  pub body_at_end_of_file : read_header (body 0x4E 0x0B 0xBF) 0x21E0 ≡ accepted (values 0x0B4E 0x0DBF (Time 0x384DB0D6) 80)
+  pub body_beyond_file : read_header (body 0x4F 0x0B 0xC0) 0x21E0 ≡ refused 8
+  pub sum_over_itself : read_header (set (set figure31 70 0x79) 71 0x0E) 0x21E0 ≡ refused 8
   pub name_bytes : data_of 0x02 figure31 ≡ 0x43 ∷ 0x4C ∷ 0x39 ∷ 0x39 ∷ 0x31 ∷ 0x32 ∷ 0x30 ∷ 0x38 ∷ []
   pub extension_bytes : data_of 0x03 of_bytes ≡ 0x21 ∷ 0x22 ∷ 0x23 ∷ []
   pub last_of_two : data_of 0x30 two_others ≡ 0x42 ∷ 0x43 ∷ []
@@ -202,17 +201,13 @@ cases = record {
   end_item_of_one = refl;
   upload_absent = refl;
   other_item = refl;
-  upload_as_in_the_figure = refl;
-  id_0112 = refl;
-  id_1200 = refl;
+  id_has_two_bytes = refl;
   item_twice = refl;
   item_missing = refl;
   item_beside = refl;
   upload_twice = refl;
   item_too_long = refl;
   upload_too_short = refl;
-  upload_too_long = refl;
-  upload_beside = refl;
   body_in_header = refl;
   body_at_end_of_file = refl;
   body_beyond_file = refl;

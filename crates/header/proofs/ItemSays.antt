@@ -12,7 +12,6 @@ use borrow.Author.Tests.{eqb-true, eq-eqb, ne_eqb}
 use Rattle.reason.specs.Answer.{accepted}
 use Rattle.octets.specs.Lists.{OneOf}
 use Rattle.octets.specs.Numbers.{number_at}
-use Rattle.header.specs.declared.Edition.{Edition}
 use Rattle.header.specs.declared.Meaning.{Meaning}
 use Rattle.header.specs.declared.Meaning.TheVariants.{UploadTime, Other}
 use Rattle.header.specs.declared.Size.TheVariants.{Exactly}
@@ -29,7 +28,6 @@ use Rattle.header.specs.Says.{HeaderSays}
 use Rattle.header.specs.Told.{Among, Tells}
 use Rattle.header.proofs.ItemLaws.{found}
 use Rattle.header.proofs.TableLaws.{in_list, eleven}
-use Rattle.header.proofs.RulesKept.{one_upload}
 use Rattle.header.proofs.Says.{header_says}
 
 -- ---- an item whose id is there once is the last one with its id
@@ -114,12 +112,12 @@ module _ (Q : ℕ → Meaning → Type 0) (id : ℕ) where
   by_known (known one size m ∷ rest) all other = by_this one size m rest all.0 (by_known rest all.1 other) (eqb id one) refl
 
 -- ---- the header's values, item by item
-module _ (edition : Edition) (s : List ℕ) (number : ℕ) (h : Header) (e : read_header edition s number ≡ accepted h) where
+module _ (s : List ℕ) (number : ℕ) (h : Header) (e : read_header s number ≡ accepted h) where
   abbrev Bytes : Item → List ℕ
   Bytes j = take j.size (drop j.start s)
 
-  says : HeaderSays edition s number h
-  says = header_says edition s number h e
+  says : HeaderSays s number h
+  says = header_says s number h e
 
   -- the items with an id tell the value of a meaning
   abbrev Told : ℕ → Meaning → Type 0
@@ -145,7 +143,7 @@ module _ (edition : Edition) (s : List ℕ) (number : ℕ) (h : Header) (e : rea
       let there : eqb (count_of (items s) 0x12) 0 ≡ false = ne_eqb (count_of (items s) 0x12) 0 (λ z. omega (arith, z, some)) in
       says.upload
       ∙ ap (λ (b : Bool). cond b Absent (Time (number_at 4 (data_of 0x12 s) 0))) there
-      ∙ ap (λ (d : List ℕ). Time (number_at 4 d 0)) (bytes_are 0x12 (one_upload edition _ says.ruled.upload) j m is)
+      ∙ ap (λ (d : List ℕ). Time (number_at 4 d 0)) (bytes_are 0x12 says.ruled.upload j m is)
 
   -- a value that is the bytes of its item's data, or their number
   spelled : (id : ℕ) (bytes : List ℕ) → bytes ≡ data_of id s → count_of (items s) id ≤ 1 → (j : Item) → Among j (items s) → j.id ≡ id → bytes ≡ Bytes j

@@ -8,5 +8,4 @@ pub mod Says
 pub mod ItemSays
 pub mod OnlyOne
 pub mod InOrder
-pub mod Editions
 pub mod Cases

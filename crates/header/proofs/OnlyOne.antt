@@ -5,7 +5,6 @@ use mathlib.Core.List.{List}
 use Prim.Native.Nat.{ℕ}
 use Rattle.reason.specs.Answer.{Answer, accepted, refused}
 use Rattle.reason.proofs.OnlyOne.{only_one, only_one_meant}
-use Rattle.header.specs.declared.Edition.{Edition}
 use Rattle.header.specs.declared.Cursor.{Cursor}
 use Rattle.header.specs.declared.Decision.{Decision}
 use Rattle.header.specs.declared.Step.{Step}
@@ -46,6 +45,6 @@ unfolding header_case
 header_back (Accepted h) = refl
 header_back (Refused n) = refl
 
-pub only_one_header : (edition : Edition) (s : List ℕ) (number : ℕ) (r q : HeaderRead) → header_answer r ≡ read_header edition s number
-    → header_answer q ≡ read_header edition s number → r ≡ q
-only_one_header edition s number r q = only_one_meant header_answer header_case header_back r q
+pub only_one_header : (s : List ℕ) (number : ℕ) (r q : HeaderRead) → header_answer r ≡ read_header s number
+    → header_answer q ≡ read_header s number → r ≡ q
+only_one_header s number r q = only_one_meant header_answer header_case header_back r q

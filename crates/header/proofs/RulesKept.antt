@@ -1,40 +1,23 @@
--- A header is accepted exactly if it keeps the rules of the edition (01, "File header"; 02, C-15), and else it is refused 8.
+-- A header is accepted exactly if it keeps the rules (01, "File header"), and else it is refused 8.
 -- Assumes nothing.
 use mathlib.Core.Path.{◌≡◌, refl}
 use mathlib.Core.Bool.{Bool, true, false, ◌&&◌}
 use mathlib.Core.List.{List}
-use Prim.Native.Nat.{ℕ, ◌≤◌}
-use native.Mathlib.Omega.{arith}
+use Prim.Native.Nat.{ℕ}
 use lib.Dec.{leb, eqb}
 use borrow.Author.Tests.{eqb-true, eq-eqb, leb-true, le-leb}
 use Rattle.reason.specs.Answer.{accepted, refused}
 use Rattle.reason.proofs.Bools.{and_left, and_right, and_both}
 use Rattle.reason.proofs.OrderLaws.{not_both}
 use Rattle.octets.specs.Numbers.{byte_at}
-use Rattle.header.specs.declared.Edition.{Edition}
-use Rattle.header.specs.declared.Edition.TheVariants.{Old, New}
 use Rattle.header.specs.declared.Header.{Header}
 use Rattle.header.specs.Items.{items, count_of, size_of, comes_to_end}
-use Rattle.header.specs.Header.{begins_right, all_once, allows_uploads, upload_right, values_right, header_length, mandatory, once, header_sum, header_of, keeps_rules, read_header}
-use Rattle.header.specs.Rules.{value_of, Uploads, Rules}
+use Rattle.header.specs.Header.{begins_right, all_once, upload_right, values_right, header_length, mandatory, once, header_sum, header_of, keeps_rules, read_header}
+use Rattle.header.specs.Rules.{value_of, Rules}
 use Rattle.header.proofs.TableLaws.{each, all_pass}
 use Rattle.header.proofs.HeaderLaws.{reads_8, reads_header, header_accepted, header_refused}
 
--- how often item 12 is there, as a test and as a rule
-uploads_rule : (edition : Edition) (n : ℕ) → allows_uploads edition n ≡ true → Uploads edition n
-uploads_rule Old n e = leb-true n 1 e
-uploads_rule New n e = eqb-true n 1 e
-
-pub uploads_kept : (edition : Edition) (n : ℕ) → Uploads edition n → allows_uploads edition n ≡ true
-uploads_kept Old n u = le-leb n 1 u
-uploads_kept New n u = eq-eqb n 1 u
-
--- in either edition at most once
-pub one_upload : (edition : Edition) (n : ℕ) → Uploads edition n → n ≤ 1
-one_upload Old n u = u
-one_upload New n u = omega (arith, u)
-
-module _ (edition : Edition) (s : List ℕ) (number : ℕ) where
+module _ (s : List ℕ) (number : ℕ) where
   -- the four parts of the test of the values
   abbrev Sum : Bool
   Sum = eqb (value_of 0x0A 2 s) (header_sum s)
@@ -48,12 +31,12 @@ module _ (edition : Edition) (s : List ℕ) (number : ℕ) where
   abbrev Before : Bool
   Before = leb (value_of 0x0B 2 s) (value_of 0x04 4 s)
 
-  pub rules : keeps_rules edition s number ≡ true → Rules edition s number
+  pub rules : keeps_rules s number ≡ true → Rules s number
   unfolding keeps_rules header_of
   rules k =
-      let four = and_left (begins_right s && comes_to_end (items s) && all_once s && upload_right edition s) (Sum && Own && Behind && Before) k in
-      let values = and_right (begins_right s && comes_to_end (items s) && all_once s && upload_right edition s) (Sum && Own && Behind && Before) k in
-      let three = and_left (begins_right s && comes_to_end (items s) && all_once s) (upload_right edition s) four in
+      let four = and_left (begins_right s && comes_to_end (items s) && all_once s && upload_right s) (Sum && Own && Behind && Before) k in
+      let values = and_right (begins_right s && comes_to_end (items s) && all_once s && upload_right s) (Sum && Own && Behind && Before) k in
+      let three = and_left (begins_right s && comes_to_end (items s) && all_once s) (upload_right s) four in
       let two = and_left (begins_right s && comes_to_end (items s)) (all_once s) three in
       let listed = and_right (begins_right s && comes_to_end (items s)) (all_once s) three in
       let begun = and_left (begins_right s) (comes_to_end (items s)) two in
@@ -64,7 +47,7 @@ module _ (edition : Edition) (s : List ℕ) (number : ℕ) where
         ends = and_right (begins_right s) (comes_to_end (items s)) two;
         each_once = λ p m. eqb-true _ _ (and_left (eqb (count_of (items s) p.id) 1) (eqb (size_of (items s) p.id) p.size) (each (once (count_of (items s)) (size_of (items s))) mandatory listed p m));
         each_sized = λ p m. eqb-true _ _ (and_right (eqb (count_of (items s) p.id) 1) (eqb (size_of (items s) p.id) p.size) (each (once (count_of (items s)) (size_of (items s))) mandatory listed p m));
-        upload = uploads_rule edition _ (and_right (begins_right s && comes_to_end (items s) && all_once s) (upload_right edition s) four);
+        upload = leb-true _ _ (and_right (begins_right s && comes_to_end (items s) && all_once s) (upload_right s) four);
         sum = eqb-true _ _ (and_left Sum Own owns);
         numbered = eqb-true _ _ (and_right Sum Own owns);
         behind = leb-true _ _ (and_right (Sum && Own) Behind sums);
@@ -72,41 +55,41 @@ module _ (edition : Edition) (s : List ℕ) (number : ℕ) where
       }
 
   -- the tests, by the rules
-  pub begins_kept : Rules edition s number → begins_right s ≡ true
+  pub begins_kept : Rules s number → begins_right s ≡ true
   begins_kept r = and_both (eqb (byte_at s 0) 0xAA) (eqb (byte_at s 1) 0x55) (eq-eqb _ _ r.marker.0) (eq-eqb _ _ r.marker.1)
 
-  pub once_kept : Rules edition s number → all_once s ≡ true
+  pub once_kept : Rules s number → all_once s ≡ true
   once_kept r =
       all_pass (once (count_of (items s)) (size_of (items s))) mandatory (λ p m. and_both _ _ (eq-eqb _ _ (r.each_once p m)) (eq-eqb _ _ (r.each_sized p m)))
 
-  pub values_kept : Rules edition s number → values_right s number ≡ true
+  pub values_kept : Rules s number → values_right s number ≡ true
   unfolding header_of
   values_kept r =
       let owns = and_both Sum Own (eq-eqb _ _ r.sum) (eq-eqb _ _ r.numbered) in
       and_both (Sum && Own && Behind) Before (and_both (Sum && Own) Behind owns (le-leb _ _ r.behind)) (le-leb _ _ r.before)
 
-  pub kept : Rules edition s number → keeps_rules edition s number ≡ true
+  pub kept : Rules s number → keeps_rules s number ≡ true
   unfolding keeps_rules
   kept r =
       let two = and_both (begins_right s) (comes_to_end (items s)) (begins_kept r) r.ends in
       let three = and_both (begins_right s && comes_to_end (items s)) (all_once s) two (once_kept r) in
-      let four = and_both (begins_right s && comes_to_end (items s) && all_once s) (upload_right edition s) three (uploads_kept edition _ r.upload) in
-      and_both (begins_right s && comes_to_end (items s) && all_once s && upload_right edition s) (values_right s number) four (values_kept r)
+      let four = and_both (begins_right s && comes_to_end (items s) && all_once s) (upload_right s) three (le-leb _ _ r.upload) in
+      and_both (begins_right s && comes_to_end (items s) && all_once s && upload_right s) (values_right s number) four (values_kept r)
 
   -- accepted exactly if it keeps them, and then with its values
-  pub accepts_if : Rules edition s number → read_header edition s number ≡ accepted (header_of s)
-  accepts_if r = reads_header edition s number (kept r)
+  pub accepts_if : Rules s number → read_header s number ≡ accepted (header_of s)
+  accepts_if r = reads_header s number (kept r)
 
-  pub accepts_only_if : (h : Header) → read_header edition s number ≡ accepted h → Rules edition s number × (h ≡ header_of s)
-  accepts_only_if h e = (rules (header_accepted edition s number h e).0, (header_accepted edition s number h e).1)
+  pub accepts_only_if : (h : Header) → read_header s number ≡ accepted h → Rules s number × (h ≡ header_of s)
+  accepts_only_if h e = (rules (header_accepted s number h e).0, (header_accepted s number h e).1)
 
   -- refused 8 exactly if it does not keep them all, and never for another reason
-  pub refuses_only_if : (n : ℕ) → read_header edition s number ≡ refused n → (n ≡ 8) × (Rules edition s number → ⊥)
-  refuses_only_if n e = ((header_refused edition s number n e).1, λ r. not_both (header_of s) n (accepts_if r) e)
+  pub refuses_only_if : (n : ℕ) → read_header s number ≡ refused n → (n ≡ 8) × (Rules s number → ⊥)
+  refuses_only_if n e = ((header_refused s number n e).1, λ r. not_both (header_of s) n (accepts_if r) e)
 
-  refuses_by : (b : Bool) → keeps_rules edition s number ≡ b → (Rules edition s number → ⊥) → read_header edition s number ≡ refused 8
+  refuses_by : (b : Bool) → keeps_rules s number ≡ b → (Rules s number → ⊥) → read_header s number ≡ refused 8
   refuses_by true k broken = absurd (broken (rules k))
-  refuses_by false k broken = reads_8 edition s number k
+  refuses_by false k broken = reads_8 s number k
 
-  pub refuses_if : (Rules edition s number → ⊥) → read_header edition s number ≡ refused 8
-  refuses_if broken = refuses_by (keeps_rules edition s number) refl broken
+  pub refuses_if : (Rules s number → ⊥) → read_header s number ≡ refused 8
+  refuses_if broken = refuses_by (keeps_rules s number) refl broken

@@ -14,7 +14,6 @@ use Rattle.reason.specs.Answer.{accepted}
 use Rattle.octets.specs.Lists.{OneOf}
 use Rattle.octets.specs.Numbers.{byte_at, number_at}
 use Rattle.octets.proofs.NumberLaws.{number_drop, number_take}
-use Rattle.header.specs.declared.Edition.{Edition}
 use Rattle.header.specs.declared.Upload.TheVariants.{Time, Absent}
 use Rattle.header.specs.declared.Pair.{Pair}
 use Rattle.header.specs.declared.Header.{Header}
@@ -60,7 +59,7 @@ in_item n id s h =
     ∙ sym (number_drop n (start_of (items s) id) s 0)
     ∙ sym (number_take n (size_of (items s) id) (drop (start_of (items s) id) s) 0 (omega arith))
 
-module _ (edition : Edition) (s : List ℕ) (number : ℕ) (r : Rules edition s number) where
+module _ (s : List ℕ) (number : ℕ) (r : Rules s number) where
   -- the length of each item that is told: that of the table, and 4 of item 12
   listed : (k id size : ℕ) → k < 11 → get_or mandatory k (record { id = 0; size = 0 }) ≡ record { id = id; size = size } → size_of (items s) id ≡ size
   listed k id size h e = r.each_sized (record { id = id; size = size }) (subst (λ (p : Pair). OneOf p mandatory) e (in_list mandatory (record { id = 0; size = 0 }) k (omega (arith, eleven))))
@@ -70,7 +69,7 @@ module _ (edition : Edition) (s : List ℕ) (number : ℕ) (r : Rules edition s 
   upload_by true e = refl
   upload_by false e = ap Time (in_item 4 0x12 s (upload_sized s (some (count_of (items s) 0x12) (eqb-false (count_of (items s) 0x12) 0 e))))
 
-  says : HeaderSays edition s number (header_of s)
+  says : HeaderSays s number (header_of s)
   unfolding header_of mandatory_items data_of
   says = record {
     ruled = r;
@@ -97,8 +96,7 @@ module _ (edition : Edition) (s : List ℕ) (number : ℕ) (r : Rules edition s 
     before = r.before;
   }
 
-pub header_says : (edition : Edition) (s : List ℕ) (number : ℕ) (h : Header) → read_header edition s number ≡ accepted h
-    → HeaderSays edition s number h
-header_says edition s number h e =
-    let a = accepts_only_if edition s number h e in
-    rw a.1 (says edition s number a.0)
+pub header_says : (s : List ℕ) (number : ℕ) (h : Header) → read_header s number ≡ accepted h → HeaderSays s number h
+header_says s number h e =
+    let a = accepts_only_if s number h e in
+    rw a.1 (says s number a.0)

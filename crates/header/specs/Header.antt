@@ -1,12 +1,10 @@
--- When a file header is accepted, and the values that it then gives (01, "File header"; 02, C-15: under which edition).
+-- When a file header is accepted, and the values that it then gives (01, "File header").
 -- Assumes nothing.
 use Rattle.std.specs.Prelude.{Bool, true, not, cond, ◌&&◌, List, [], ◌∷◌, ℕ, ◌+◌, ◌%◌, leb, eqb, take}
 use Rattle.reason.specs.Answer.{Answer, accepted, refused}
 use Rattle.reason.specs.Order.{Check, check, first_of}
 use Rattle.octets.specs.Numbers.{byte_at, number_at}
 use Rattle.octets.specs.Runs.{put_in}
-use Rattle.header.specs.declared.Edition.{Edition}
-use Rattle.header.specs.declared.Edition.TheVariants.{Old, New}
 use Rattle.header.specs.declared.Pair.{Pair}
 use Rattle.header.specs.declared.Name.{Name}
 use Rattle.header.specs.declared.Extension.{Extension}
@@ -111,30 +109,25 @@ header_of s = values_by (count_of (items s)) (start_of (items s)) (header_length
 abbrev pub all_once : List ℕ → Bool
 all_once s = every_pair (once (count_of (items s)) (size_of (items s))) mandatory
 
--- how many items 12 an edition allows: the old one, which is 01's, at most one; the new one exactly one
-abbrev pub allows_uploads : Edition → ℕ → Bool
-allows_uploads Old n = leb n 1
-allows_uploads New n = eqb n 1
-
--- item 12 is there as often as the edition allows: of all rules, the one that asks for the edition
-abbrev pub upload_right : Edition → List ℕ → Bool
-upload_right edition s = allows_uploads edition (count_of (items s) 0x12)
+-- item 12 is there at most once
+abbrev pub upload_right : List ℕ → Bool
+upload_right s = leb (count_of (items s) 0x12) 1
 
 -- its values agree with its bytes, with the number and with each other
 abbrev pub values_right : List ℕ → ℕ → Bool
 values_right s number = values_agree (header_of s) (header_sum s) number
 
--- the header keeps every rule of the edition: `Rules` says them one by one
-unfoldable pub keeps_rules : Edition → List ℕ → ℕ → Bool
-keeps_rules edition s number = begins_right s && comes_to_end (items s) && all_once s && upload_right edition s && values_right s number
+-- the header keeps every rule: `Rules` says them one by one
+unfoldable pub keeps_rules : List ℕ → ℕ → Bool
+keeps_rules s number = begins_right s && comes_to_end (items s) && all_once s && upload_right s && values_right s number
 
 -- the order in reading a header: 8
-abbrev pub header_checks : Edition → List ℕ → ℕ → List Check
-header_checks edition s number = check (not (keeps_rules edition s number)) 8 ∷ []
+abbrev pub header_checks : List ℕ → ℕ → List Check
+header_checks s number = check (not (keeps_rules s number)) 8 ∷ []
 
--- reading the header that s starts with, of the file with the number, by the rules of an edition
-unfoldable pub read_header : Edition → List ℕ → ℕ → Answer Header
-read_header edition s number = first_of (header_checks edition s number) (header_of s)
+-- reading the header that s starts with, of the file with the number
+unfoldable pub read_header : List ℕ → ℕ → Answer Header
+read_header s number = first_of (header_checks s number) (header_of s)
 
 -- the paper's number and values for each case of `read_header`'s answer
 abbrev pub header_answer : HeaderRead → Answer Header

@@ -6,5 +6,3 @@ pub mod Notes
 pub mod Figure
 pub mod Says
 pub mod Told
-pub mod Editions
-pub mod Examples

@@ -1,8 +1,7 @@
--- What a file header says that an edition accepts (01, "File header"; 02, C-15; demand 2): each value is the number of its item's data.
+-- What an accepted file header says (01, "File header"; demand 2): each value is the number of its item's data.
 -- Assumes nothing.
 use Rattle.std.specs.Prelude.{◌≡◌, cond, List, ℕ, ◌≤◌, eqb, length}
 use Rattle.octets.specs.Numbers.{number_at}
-use Rattle.header.specs.declared.Edition.{Edition}
 use Rattle.header.specs.declared.Upload.TheVariants.{Time, Absent}
 use Rattle.header.specs.declared.Header.{Header}
 use Rattle.header.specs.Items.{items, count_of}
@@ -10,11 +9,11 @@ use Rattle.header.specs.Header.{header_length, name_bytes, extension_bytes}
 use Rattle.header.specs.Rules.{Rules}
 use Rattle.header.specs.Data.{data_of}
 
--- It keeps the edition's rules, as a header of the file; size is its own length, within the bytes, and length the whole file's; its
--- name and extension are the bytes of items 02 and 03 in their order; item 12 is told exactly if it is there; and item 0B lies between
--- size and length.
-pub record HeaderSays (edition : Edition) (s : List ℕ) (number : ℕ) (h : Header) : Type 0 where
-  pub ruled : Rules edition s number
+-- It keeps the rules, as a header of the file; size is its own length, within the bytes, and length the whole file's; its name and
+-- extension are the bytes of items 02 and 03 in their order; item 12 is told exactly if it is there; and item 0B lies between size and
+-- length.
+pub record HeaderSays (s : List ℕ) (number : ℕ) (h : Header) : Type 0 where
+  pub ruled : Rules s number
   pub size : h.size ≡ header_length s
   pub within : h.size ≤ length s
   pub numbered : h.number ≡ number

@@ -5,25 +5,16 @@
 // follows the header in the slice is not looked at. The contracts cite `specs/Items.antt`,
 // `specs/Header.antt` and `specs/Data.antt`.
 // `specs/Rules.antt` says the rules as propositions, and `proofs/RulesKept.antt` that a header is
-// accepted exactly if it keeps them all. There are two editions of the rules (02, C-15), which differ in how
-// often item 12 is there: `specs/Editions.antt` says what their answers have to do with each other.
+// accepted exactly if it keeps them all.
 mod notes;
 mod values;
 
 ghost use Rattle.std.specs.Prelude.{◌≡◌};
 ghost use Rattle.header.specs.Items.{decision_of, allows_size, step_at};
-ghost use Rattle.header.specs.Header.{allows_uploads, header_answer, read_header};
+ghost use Rattle.header.specs.Header.{header_answer, read_header};
 ghost use Rattle.header.specs.Data.{data_of};
 
 use notes::{PLACES, Walked};
-
-// The edition of the rules that a header is read by: in the old one item 12 may be absent, in the new
-// one it is mandatory. All other rules are the same.
-#[derive(Drop)]
-pub enum Edition {
-    Old,
-    New,
-}
 
 // What an item tells of its file, by its id.
 #[derive(Drop)]
@@ -247,10 +238,10 @@ pub fn item_bytes(s: &[u8], id: u16) -> &[u8]
     }
 }
 
-// The values of the header that s starts with, of the file with the number, by the rules of the edition;
-// refuses 8 where it breaks one. What follows the header in s is not looked at.
-pub fn read_header(s: &[u8], number: u32, edition: Edition) -> HeaderRead
-    ensures { header_answer result ≡ read_header edition s.now number }
+// The values of the header that s starts with, of the file with the number; refuses 8 where it breaks
+// a rule. What follows the header in s is not looked at.
+pub fn read_header(s: &[u8], number: u32) -> HeaderRead
+    ensures { header_answer result ≡ read_header s.now number }
 {
     if !values::begins(s) {
         return HeaderRead::Refused(8);
@@ -264,7 +255,7 @@ pub fn read_header(s: &[u8], number: u32, edition: Edition) -> HeaderRead
     if !notes::all_once(&counts, &sizes) {
         return HeaderRead::Refused(8);
     }
-    if !allows_uploads(edition, notes::noted(&counts, Meaning::UploadTime)) {
+    if 1 < notes::noted(&counts, Meaning::UploadTime) {
         return HeaderRead::Refused(8);
     }
     let header = values::values(s, end, &counts, &starts);
@@ -292,15 +283,5 @@ fn allows(allowed: Size, size: usize) -> bool
     match allowed {
         Size::Exactly(n) => size == n,
         Size::Any => true,
-    }
-}
-
-// Whether the edition allows as many items 12.
-fn allows_uploads(edition: Edition, count: usize) -> bool
-    ensures { result ≡ allows_uploads edition count }
-{
-    match edition {
-        Edition::Old => count <= 1,
-        Edition::New => count == 1,
     }
 }

@@ -61,8 +61,25 @@ fn turned(m: Bytes, c: &[u32; 32]) -> Bytes {
     Bytes { bytes, size }
 }
 
+// The directory entry of figure 3.2, with another number or offset.
+pub(crate) fn entry(c: &[u32; 32]) -> Bytes {
+    let numbered = made::with_number(head(c), 21, c[O]);
+    let filled = made::with(
+        numbered,
+        25,
+        b"\xE0\x7E\x3C\x38\xEE\xCF\x3D\
+        \x38\xAA\x55\x01\x00\x04\x67\xAE\x00\x00\x02\x00\x08\x42\x4C\x39\
+        \x39\x31\x31\x32\x34\x03\x00\x03\x20\x20\x20\x04\x00\x04\xE0\x06\
+        \x00\x00\x05\x00\x04\x49\x2D\x3B\x38\x06\x00\x04\xE1\x7E\x3C\x38\
+        \x12\x00\x04\xE0\x7E\x3C\x38\x07\x00\x01\x00\x08\x00\x01\xCA\x09\
+        \x00\x02\xFB\x44\x0A\x00\x02\x84\x0C\x0B\x00\x02\x50\x00\x00\x00\
+        \x00",
+    );
+    closed(filled, (c[D] % 300) as usize, c)
+}
+
 // A frame whose information has n bytes, with its check behind them.
-pub(crate) fn closed(m: Bytes, n: usize, c: &[u32; 32]) -> Bytes {
+fn closed(m: Bytes, n: usize, c: &[u32; 32]) -> Bytes {
     let bytes = m.bytes;
     let right = remainder::remainder(made::first(made::behind(&bytes, 16), n));
     let low_first = octets::bytes2(check(right, c[X]));

@@ -1,6 +1,6 @@
-// What the station reads of a piece and of a directory entry (01, "Frame", "File header"; 02, C-15).
-use crate::{entries, frames};
-use program_tools::cells::{E, UNTOLD};
+// What the station reads of a piece and of a directory entry (01, "Frame", "File header").
+use crate::frames;
+use program_tools::cells::UNTOLD;
 use program_tools::made;
 
 // What a piece's numbers are before a call tells them: of both addresses, the station's number.
@@ -36,17 +36,16 @@ pub(crate) fn stations(to: u64, from: u64) -> u32 {
     (bits * 10000 + numbers) as u32
 }
 
-// A frame read as a directory entry under an edition: the reason, then flags, number, and how many bytes its header has,
-// or the numbers and bits of both stations for the flags; or the header of such a frame: the reason, then the length of
-// the file, the body offset, and 1 where item 12 is present.
+// A frame read as a directory entry: the reason, then flags, number, and how many bytes its header has, or the numbers and bits of
+// both stations for the flags; or the header of such a frame: the reason, then the length of the file, the body offset, and 1
+// where item 12 is present.
 fn entry_read(c: &[u32; 32], operation: u32) -> [u32; 4] {
-    let m = entries::entry(c);
+    let m = frames::entry(c);
     let bytes = m.bytes;
     let mut told: [u64; 9] = [UNTOLD as u64; 9];
     let mut values: [u64; 12] = [UNTOLD as u64; 12];
     let reason = station::frame_boundary::station_entry(
         made::first(&bytes, m.size),
-        c[E] == 1,
         &mut told,
         &mut values,
     );

@@ -1,16 +1,15 @@
-// What the library answers for a frame, as one number, and the lines that say it; for an entry under both editions.
+// What the library answers for a frame, as one number, and the lines that say it.
 use frame::{EntryRead, PieceRead};
-use header::Edition;
 use program_tools::made::Bytes;
 use program_tools::{made, say};
 
 // The reason for which the frame is refused, 0 where it is accepted: read as a piece, or as an entry
-// where the protocol is that of directories, under the edition.
-pub(crate) fn answer(protocol: u8, frame: Bytes, edition: Edition) -> u8 {
+// where the protocol is that of directories.
+pub(crate) fn answer(protocol: u8, frame: Bytes) -> u8 {
     let bytes = frame.bytes;
     let all = made::first(&bytes, frame.size);
     if protocol == ax25::DIRECTORY_PROTOCOL {
-        entry(all, edition)
+        entry(all)
     } else {
         piece(all)
     }
@@ -25,8 +24,8 @@ fn piece(frame: &[u8]) -> u8 {
 }
 
 // The answer for a frame that is read as an entry.
-fn entry(frame: &[u8], edition: Edition) -> u8 {
-    match frame::read_entry(frame, edition) {
+fn entry(frame: &[u8]) -> u8 {
+    match frame::read_entry(frame) {
         EntryRead::Accepted(_) => 0,
         EntryRead::Refused(reason) => reason,
     }
@@ -49,13 +48,6 @@ pub(crate) fn heading(words: &[u8], protocol: u8) {
 
 // The rest of a line for one frame.
 pub(crate) fn end(protocol: u8, frame: Bytes) {
-    outcomes(protocol, frame);
+    say::outcome(answer(protocol, frame));
     say::newline();
-}
-
-// What is answered under both editions, said; and the new one's answer.
-pub(crate) fn outcomes(protocol: u8, frame: Bytes) -> u8 {
-    let new = answer(protocol, frame, Edition::New);
-    say::outcomes(answer(protocol, frame, Edition::Old), new);
-    new
 }

@@ -32,15 +32,6 @@ pub(crate) fn entry() -> Bytes {
     made::cut(made::with(whole, 113, b"\0\0"), 113)
 }
 
-// The same without item 12 in its header, which then has 73 bytes: the items behind it, 0A and 0B made right, and zeros
-// behind them.
-pub(crate) fn older_entry() -> Bytes {
-    let run =
-        b"\x07\x00\x01\x00\x08\x00\x01\xCA\x09\x00\x02\xFB\x44\x0A\x00\x02\x95\x0A\x0B\x00\x02\x49\x00\
-        \x00\x00\x00\x00\x00\x00\x00\x00\x00\x00";
-    made::cut(made::with(entry(), 80, run), 106)
-}
-
 // The entry of the figure, or the piece of four bytes.
 pub(crate) fn base(protocol: u8) -> Bytes {
     if protocol == ax25::DIRECTORY_PROTOCOL {

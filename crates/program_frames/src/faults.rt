@@ -4,8 +4,8 @@ use crate::{answers, bases};
 use program_tools::made::Bytes;
 use program_tools::{made, say};
 
-// The faults, numbered in the paper's order, and behind them that of the new edition alone. 1 to 4 are those of the
-// first 16 bytes: destination, source, control and protocol; 8 to 10 are flags, flags that are not whole, and an offset.
+// The faults, numbered in the paper's order. 1 to 4 are those of the first 16 bytes: destination, source, control and
+// protocol; 8 to 10 are flags, flags that are not whole, and an offset.
 pub(crate) const SHORT: usize = 0;
 
 const LONG: usize = 5;
@@ -18,41 +18,37 @@ pub(crate) const NO_DATA: usize = 11;
 
 pub(crate) const HEADER: usize = 12;
 
-pub(crate) const UPLOAD: usize = 13;
-
 // The reason of each fault.
-const REASONS: [u8; 14] = [1, 2, 2, 3, 4, 7, 1, 6, 5, 14, 14, 7, 8, 8];
+const REASONS: [u8; 13] = [1, 2, 2, 3, 4, 7, 1, 6, 5, 14, 14, 7, 8];
 
 // Where one byte differs by a fault, and in which bits, before the check is made: a destination in
 // lower case, a source with a low bit set, control 13, the protocol of the other reading; flags with bit 0
 // set, an entry's flags with bit 5 clear, an entry's offset of 1, an entry's number that is not item
 // 01's. The other faults have no such bits.
-const PLACES: [usize; 14] = [0, 0, 7, 14, 15, 0, 0, 0, 16, 16, 21, 0, 17, 0];
+const PLACES: [usize; 13] = [0, 0, 7, 14, 15, 0, 0, 0, 16, 16, 21, 0, 17];
 
-const BITS: [u8; 14] = [0, 0x40, 1, 0x10, 6, 0, 0, 0, 1, 0x20, 1, 0, 1, 0];
+const BITS: [u8; 13] = [0, 0x40, 1, 0x10, 6, 0, 0, 0, 1, 0x20, 1, 0, 1];
 
 // The line of a case: each fault with itself, which is that fault alone, and with each that comes later in the order;
 // x where a piece and an entry can have both, p and e where one of them can. Where there are 15 bytes, what lies behind
-// them has no fault; one length of the information is fixed by one fault, of which a header without item 12 is one; and
-// where it is short there is no header.
+// them has no fault; one length of the information is fixed by one fault; and where it is short there is no header.
 pub(crate) fn pair(protocol: u8, c: usize) {
-    let pairs = b"xxxx..........\
-        .xxxxxxxxeepee\
-        ..xxxxxxxeepee\
-        ...xxxxxxeepee\
-        ....xxxxxeepee\
-        .....x.xxee.e.\
-        ......xxxee...\
-        .......xxeepee\
-        ........xeepee\
-        .........ee.ee\
-        ..........e.ee\
-        ...........p..\
-        ............ee\
-        .............e";
+    let pairs = b"xxxx.........\
+        .xxxxxxxxeepe\
+        ..xxxxxxxeepe\
+        ...xxxxxxeepe\
+        ....xxxxxeepe\
+        .....x.xxee.e\
+        ......xxxee..\
+        .......xxeepe\
+        ........xeepe\
+        .........ee.e\
+        ..........e.e\
+        ...........p.\
+        ............e";
     let can = octets::byte(pairs, c);
     if (can == b'x') | (can == own(protocol)) {
-        line(protocol, c / 14, c % 14, frame(protocol, c / 14, c % 14));
+        line(protocol, c / 13, c % 13, frame(protocol, c / 13, c % 13));
     }
 }
 
@@ -75,11 +71,12 @@ pub(crate) fn head(protocol: u8, fault: usize) {
     );
 }
 
-// The line of a frame with two faults: their names, the answers, and a question mark where the new edition's is not the
-// first's reason.
+// The line of a frame with two faults: their names, the answer, and a question mark where it is not the first's reason.
 fn line(protocol: u8, first: usize, second: usize, frame: Bytes) {
     names(protocol, first, second);
-    if answers::outcomes(protocol, frame) != reason(first) {
+    let answer = answers::answer(protocol, frame);
+    say::outcome(answer);
+    if answer != reason(first) {
         say::text(b" ?");
     }
     say::newline();
@@ -96,13 +93,13 @@ fn names(protocol: u8, first: usize, second: usize) {
 
 // The name of a fault: its reason, with a letter where several have the same.
 pub(crate) fn name(fault: usize) {
-    say::word(b" 1/ 2/ 2s/ 3/ 4/ 7/ 1i/ 6/ 5/ 14/ 14o/ 7n/ 8/ 8u/", fault);
+    say::word(b" 1/ 2/ 2s/ 3/ 4/ 7/ 1i/ 6/ 5/ 14/ 14o/ 7n/ 8/", fault);
 }
 
 // The reason of a fault.
 fn reason(fault: usize) -> u8 {
     let reasons = REASONS;
-    reasons[fault % 14]
+    reasons[fault % 13]
 }
 
 // The frame with the faults, one of them twice where it has only one.
@@ -118,7 +115,7 @@ pub(crate) fn frame(protocol: u8, first: usize, second: usize) -> Bytes {
 
 // The fault of the two that can be one of the length.
 fn of_length(first: usize, second: usize) -> usize {
-    if (second == LONG) | (second == INFORMATION) | (second == NO_DATA) | (second == UPLOAD) {
+    if (second == LONG) | (second == INFORMATION) | (second == NO_DATA) {
         second
     } else {
         first
@@ -140,7 +137,7 @@ fn changed(frame: Bytes, fault: usize) -> Bytes {
     let bits = BITS;
     let mut bytes = frame.bytes;
     let size = frame.size;
-    made::turn(&mut bytes, places[fault % 14], bits[fault % 14]);
+    made::turn(&mut bytes, places[fault % 13], bits[fault % 13]);
     Bytes { bytes, size }
 }
 
@@ -168,7 +165,6 @@ fn entry(fault: usize) -> Bytes {
     match fault {
         LONG => bases::long_entry(256),
         INFORMATION => made::cut(bases::entry(), 32),
-        UPLOAD => bases::older_entry(),
         _ => bases::entry(),
     }
 }

@@ -1,7 +1,5 @@
-// All flag bytes of a piece and of an entry, each with its answer, 16 to a line; a question mark stands where the
-// editions differ.
+// All flag bytes of a piece and of an entry, each with its answer, 16 to a line.
 use crate::{answers, bases};
-use header::Edition;
 use program_tools::{made, say};
 
 // What is answered for one flag byte, and the start and the end of its line.
@@ -10,13 +8,9 @@ pub(crate) fn value(protocol: u8, c: usize) {
     if c % 16 == 0 {
         start(run[0]);
     }
-    let frame = bases::checked(made::with(bases::base(protocol), 16, &run));
-    let old = answers::answer(protocol, frame, Edition::Old);
+    let frame = made::with(bases::base(protocol), 16, &run);
     say::space();
-    say::number(old as u64);
-    if old != answers::answer(protocol, frame, Edition::New) {
-        say::letter(b'?');
-    }
+    say::number(answers::answer(protocol, bases::checked(frame)) as u64);
     if c % 16 == 15 {
         say::newline();
     }

@@ -1,18 +1,17 @@
-// What is handed out of a frame: of a piece its bytes and its fields, of an entry its header's bytes under
-// both editions; of the bytes how many, the first and the last, and none of a refused frame.
+// What is handed out of a frame: of a piece its bytes and its fields, of an entry its header's bytes;
+// of the bytes how many, the first and the last, and none of a refused frame.
 use crate::{answers, bases, faults};
 use frame::PieceRead;
-use header::Edition;
 use program_tools::made::Bytes;
 use program_tools::{made, say};
 
-// How many bytes the accepted pieces have, and the number of the accepted entry, behind which come those with a fault.
+// How many bytes the accepted pieces have, and the number of the accepted entry, behind which come its refused ones.
 const SIZES: [u8; 4] = [1, 2, 243, 244];
 
 const ENTRY: usize = 7;
 
-// The faults of the other frames, each at the number of its case; the last is one under the new edition alone.
-const FAULTS: [usize; 11] = [
+// The faults of the refused frames, each at the number of its case.
+const FAULTS: [usize; 10] = [
     0,
     0,
     0,
@@ -23,10 +22,9 @@ const FAULTS: [usize; 11] = [
     0,
     faults::CHECK,
     faults::HEADER,
-    faults::UPLOAD,
 ];
 
-// The line of a case: pieces of 1, 2, 243 and 244 bytes and with a fault, the entry of the figure and with a fault.
+// The line of a case: pieces of 1, 2, 243 and 244 bytes and refused ones, the entry of the figure and refused ones.
 pub(crate) fn case(protocol: u8, c: usize) {
     let sizes = SIZES;
     let faults = FAULTS;
@@ -38,7 +36,7 @@ pub(crate) fn case(protocol: u8, c: usize) {
     if c == ENTRY {
         handed(protocol, bases::checked(bases::entry()));
     } else {
-        with_fault(protocol, faults[c % 11]);
+        refused(protocol, faults[c % 10]);
     }
 }
 
@@ -49,7 +47,7 @@ fn accepted(n: u8) {
 }
 
 // The rest of a line of a frame with a fault.
-fn with_fault(protocol: u8, fault: usize) {
+fn refused(protocol: u8, fault: usize) {
     say::text(b" with fault");
     faults::name(fault);
     handed(protocol, faults::frame(protocol, fault, fault));
@@ -60,13 +58,10 @@ fn handed(protocol: u8, frame: Bytes) {
     let bytes = frame.bytes;
     let all = made::first(&bytes, frame.size);
     if protocol == ax25::DIRECTORY_PROTOCOL {
-        counted(frame::header_bytes(all, Edition::Old));
-        say::text(b"; by the new edition");
-        counted(frame::header_bytes(all, Edition::New));
+        counted(frame::header_bytes(all));
     } else {
         counted(frame::piece_bytes(all));
     }
-    say::newline();
 }
 
 // How many bytes, the first and the last.
@@ -77,6 +72,7 @@ fn counted(s: &[u8]) {
         say::bytes(made::first(s, 1));
         say::bytes(made::behind(s, s.len() - 1));
     }
+    say::newline();
 }
 
 // The fields of a piece of type 5 with number 01020304 and offset 060708: a heading and a line for each, and none where

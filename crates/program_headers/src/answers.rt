@@ -1,5 +1,5 @@
-// What the library answers for a header under both editions, and the lines that say it.
-use header::{Edition, HeaderRead};
+// What the library answers for a header, and the lines that say it.
+use header::HeaderRead;
 use program_tools::made::Bytes;
 use program_tools::{made, say};
 
@@ -12,15 +12,14 @@ pub(crate) fn line(name: &[u8], header: Bytes) {
 // The rest of a line for one header.
 pub(crate) fn end(header: Bytes) {
     let bytes = header.bytes;
-    let all = made::first(&bytes, header.size);
-    say::outcomes(reason(all, Edition::Old), reason(all, Edition::New));
+    say::outcome(reason(made::first(&bytes, header.size)));
     say::newline();
 }
 
 // The reason for which a header is refused, 0 where it is accepted, read as that of the figure's file, whose number is
 // AE67.
-fn reason(header: &[u8], edition: Edition) -> u8 {
-    match header::read_header(header, 0xAE67, edition) {
+fn reason(header: &[u8]) -> u8 {
+    match header::read_header(header, 0xAE67) {
         HeaderRead::Accepted(_) => 0,
         HeaderRead::Refused(reason) => reason,
     }

@@ -1,8 +1,7 @@
 // Reads file headers through the library and prints what became of each: every rule of a header
 // broken and kept, bytes behind the end item, and cuts; and prints the bytes of items. Every header is
 // that of figure 3.2 with the change that its line names. Items 0A and 0B are made right again unless
-// they are what is changed, or the header is cut. It is read under both editions, and where the new one's
-// answer is another the line says it too.
+// they are what is changed, or the header is cut.
 mod answers;
 mod data;
 mod figure;
@@ -28,8 +27,6 @@ const LONGER: u8 = 5;
 
 const CUTS: u8 = 6;
 
-const UPLOADS: u8 = 7;
-
 fn main() {
     say::text(b"Rules of a header\n");
     changed();
@@ -41,15 +38,13 @@ fn main() {
     data::all();
 }
 
-// Headers with another marker and with other items: each item changed, item 0A in two ways more, and item 12 with
-// another id.
+// Headers with another marker and with other items: each item changed, and then item 0A in two ways more.
 fn changed() {
     each(MARKERS, 0, 3);
     each(CHANGES, 0, 72);
     each(CHANGES, 82, 83);
     each(CHANGES, 94, 95);
     each(OTHERS, 0, 7);
-    each(UPLOADS, 0, 3);
     rules::ends();
 }
 
@@ -78,7 +73,6 @@ fn case(series: u8, c: usize) {
         NUMBERS => rules::number(c),
         VALUES => rules::value(c),
         LONGER => lengths::longer(c),
-        UPLOADS => rules::upload(c),
         _ => lengths::cut(c),
     }
 }

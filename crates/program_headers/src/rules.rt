@@ -36,9 +36,6 @@ const OTHERS: [u32; 7] = [
     0x003000, 0x003001, 0x003005, 0x010104, 0x010A02, 0x120004, 0x010000,
 ];
 
-// Ids that stand for item 12's: two of which one byte is 12, and another.
-const UPLOADS: [u16; 3] = [0x1200, 0x0112, 0x0030];
-
 // Another byte for each of the four bytes of item 01, which is the number.
 const NUMBERS: [u8; 4] = [0x66, 0xAF, 0x01, 0x01];
 
@@ -92,17 +89,6 @@ fn ended(id: u16, length: u8) -> Bytes {
     let run = [length];
     let item = made::with(runs::with_number(runs::of(b""), 0, id), 2, &run);
     made::cut(item, (length as usize) + 6)
-}
-
-// The line of a header with another id for item 12's.
-pub(crate) fn upload(c: usize) {
-    let ids = UPLOADS;
-    let id = ids[c % 3];
-    let run = octets::bytes2(id);
-    say::text(b"item ");
-    answers::hex2(id);
-    say::text(b" for item 12");
-    answers::end(figure::with(47, &run));
 }
 
 // An end item of length 1, as the last item and before it; two items 30; an item 30 that runs past

@@ -16,9 +16,7 @@
 //   e, t            place that is asked, and how many bytes of the target are lent
 //
 // In a request that is read d is the length of the information, b the block size, (o, l) the first hole, (u, v)
-// the second; in an entry d is the length of the information without the check, e is 1 where it is read under the
-// new edition, and t is how item 12 stands in its header: as in the figure, absent, twice, with three bytes of data,
-// or with the id 1200 or 0112.
+// the second; in an entry d is the length of the information without the check.
 //
 // The functions are those of `made`, asked for with such numbers.
 ghost use Rattle.std.specs.Prelude.{◌≡◌, ◌%◌, take};

@@ -68,15 +68,6 @@ pub fn outcome(reason: u8) {
     }
 }
 
-// What was answered under the old edition, and under the new one where that is another answer.
-pub fn outcomes(old: u8, new: u8) {
-    outcome(old);
-    if new != old {
-        text(b", by the new edition");
-        outcome(new);
-    }
-}
-
 // How far a text of a list is printed: how many texts are left before it, and the numbers that are left.
 #[derive(Drop)]
 struct Left {

@@ -1,7 +1,7 @@
 -- What a test that is made of several says of each, and the two ways that a comparison can go.
 -- Assumes nothing.
-use mathlib.Core.Path.{◌≡◌, refl, sym, ap, ◌∙◌}
-use mathlib.Core.Bool.{Bool, true, false, ◌&&◌, ◌||◌, false≢true, and_assoc, and_comm}
+use mathlib.Core.Path.{◌≡◌, refl, sym}
+use mathlib.Core.Bool.{Bool, true, false, ◌&&◌, ◌||◌, false≢true}
 use mathlib.Core.Logic.{◌⊎◌, inl, inr}
 use Prim.Native.Nat.{ℕ, ◌≤◌, ◌<◌}
 use lib.Dec.{leb}
@@ -17,10 +17,6 @@ and_right false b e = absurd (false≢true e)
 
 pub and_both : (a b : Bool) → a ≡ true → b ≡ true → (a && b) ≡ true
 and_both a b d e = rw (d, e)
-
--- a test in the middle of others may as well come last
-pub and_last : (a m b : Bool) → (a && m && b) ≡ (a && b && m)
-and_last a m b = and_assoc a m b ∙ ap (λ (x : Bool). a && x) (and_comm m b) ∙ sym (and_assoc a b m)
 
 pub or_cases : (a b : Bool) → (a || b) ≡ true → (a ≡ true) ⊎ (b ≡ true)
 or_cases true b e = inl refl

@@ -1,7 +1,7 @@
 -- Laws of `first_of`, over any list of checks and any value: each reason is given exactly when it is the first in the order.
 -- Assumes nothing.
 use mathlib.Core.Path.{◌≡◌, refl, sym, ap, ◌∙◌}
-use mathlib.Core.Bool.{Bool, true, false, not, cond, ◌&&◌, true≢false, false≢true}
+use mathlib.Core.Bool.{Bool, true, false, true≢false, false≢true}
 use mathlib.Core.Logic.{◌⊎◌, inl, inr, ⊎_elim}
 use mathlib.Core.List.{List, [], ◌∷◌, ◌++◌}
 use Prim.Native.Nat.{ℕ}
@@ -117,17 +117,3 @@ unfolding first_of
 first_telling f [] a = refl
 first_telling f (check true m ∷ cs) a = refl
 first_telling f (check false m ∷ cs) a = first_telling f cs a
-
--- one part more in the last test: what was accepted without it is, where it fails, refused with the last test's number
-abbrev pub unless : {A : Type 0} → Bool → ℕ → Answer A → Answer A
-unless more n (accepted a) = cond more (accepted a) (refused n)
-unless more n (refused m) = refused m
-
-pub one_part_more : {A : Type 0} (cs : List Check) (test more : Bool) (n : ℕ) (a : A)
-    → first_of (cs ++ check (not (test && more)) n ∷ []) a ≡ unless more n (first_of (cs ++ check (not test) n ∷ []) a)
-unfolding first_of
-one_part_more [] true true n a = refl
-one_part_more [] true false n a = refl
-one_part_more [] false more n a = refl
-one_part_more (check true m ∷ cs) test more n a = refl
-one_part_more (check false m ∷ cs) test more n a = one_part_more cs test more n a

@@ -127,8 +127,8 @@ at_boundary = record {
   station_load = λ saved lent. returns (loading_checks saved lent.map lent.buffer) _ _ _ lent refl
       (load_in_order saved lent.map lent.buffer);
   station_piece = λ frame lent. returns (piece_order frame) _ _ _ lent refl (read_piece_in_order frame);
-  station_entry = λ edition frame lent. returns (entry_order edition frame) _ _ _ lent refl (read_entry_in_order edition frame);
-  station_header = λ edition bytes number lent. returns (header_checks edition bytes number) _ _ _ lent refl (read_header_in_order edition bytes number);
+  station_entry = λ frame lent. returns (entry_order frame) _ _ _ lent refl (read_entry_in_order frame);
+  station_header = λ bytes number lent. returns (header_checks bytes number) _ _ _ lent refl (read_header_in_order bytes number);
   station_write_fill = λ w place lent. returns (fill_checks w place lent.target) _ _ _ lent refl (write_fill_in_order w place lent.target);
   station_write_start = λ head number lent. returns (start_checks head lent) _ _ _ lent refl (write_start_in_order head number lent);
   station_read_request = λ frame lent. returns (request_order frame) _ _ _ lent refl (read_request_in_order frame);
@@ -150,8 +150,8 @@ at_boundary = record {
       ap (λ (x : List ℕ). take (get_or x 6 0) (drop (get_or x 5 0) frame)) is.1
       ∙ stands_there 9 frame
       ∙ sym (ap (λ (x : Answer Piece). piece_bytes_read x frame) is.0);
-  header_stands_there = λ edition frame lent left r p e.
-      let is = told (entry_order edition frame) _ _ _ lent refl (read_entry_in_order edition frame) r left p e in
+  header_stands_there = λ frame lent left r p e.
+      let is = told (entry_order frame) _ _ _ lent refl (read_entry_in_order frame) r left p e in
       ap (λ (x : EntryTold). take (get_or x.told 8 0) (drop (get_or x.told 7 0) frame)) is.1
       ∙ stands_there 17 frame
       ∙ sym (ap (λ (x : Answer Entry). header_bytes_read x frame) is.0);

@@ -10,7 +10,6 @@ use Rattle.ax25.specs.Address.{is_writable}
 use Rattle.ax25.specs.Information.{file_protocol, directory_protocol, information_of}
 use Rattle.ax25.specs.Bits.{head_with, frame_with}
 use Rattle.ax25.proofs.BitLaws.{information_stays, but_for_bits, written_with}
-use Rattle.header.specs.declared.Edition.{Edition}
 use Rattle.frame.specs.declared.Piece.{Piece}
 use Rattle.frame.specs.declared.Entry.{Entry}
 use Rattle.frame.specs.Piece.{piece_checks, piece_fields, read_piece, data_part, piece_bytes_read, piece_bytes}
@@ -47,9 +46,9 @@ module _ (to from : ℕ) (frame : List ℕ) where
   unfolding entry_fields
   entry_carries head s = refl
 
-  entries : (edition : Edition) → read_entry edition chosen ≡ telling (entry_with to from) (read_entry edition frame)
+  entries : read_entry chosen ≡ telling (entry_with to from) (read_entry frame)
   unfolding read_entry
-  entries edition = but_for_bits to from frame directory_protocol (entry_checks edition) entry_fields (entry_with to from) entry_carries
+  entries = but_for_bits to from frame directory_protocol entry_checks entry_fields (entry_with to from) entry_carries
 
   request_carries : (head : Head) (s : List ℕ) → request_fields (head_with to from head) s ≡ request_with to from (request_fields head s)
   unfolding request_fields
@@ -71,8 +70,8 @@ module _ (to from : ℕ) (frame : List ℕ) where
   headers_by (accepted e) = ap header_part same
   headers_by (refused n) = refl
 
-  headers : (edition : Edition) → header_bytes edition chosen ≡ header_bytes edition frame
-  headers edition = ap (λ (x : Answer Entry). header_bytes_read x chosen) (entries edition) ∙ headers_by (read_entry edition frame)
+  headers : header_bytes chosen ≡ header_bytes frame
+  headers = ap (λ (x : Answer Entry). header_bytes_read x chosen) entries ∙ headers_by (read_entry frame)
 
   holes_by : (x : Answer Request) → holes_read (telling (request_with to from) x) chosen ≡ holes_read x frame
   holes_by (accepted r) = rw same
@@ -112,8 +111,8 @@ pub only_the_bits : OnlyTheBits
 only_the_bits = record {
   pieces = pieces;
   bytes = bytes;
-  entries = λ to from edition frame. entries to from frame edition;
-  headers = λ to from edition frame. headers to from frame edition;
+  entries = entries;
+  headers = headers;
   requests = requests;
   holes = holes;
   taking = λ to from s frame. taking_stays to from frame s;

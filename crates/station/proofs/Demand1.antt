@@ -239,7 +239,7 @@ pub demand_1 : Demand1
 unfolding head_checks piece_checks entry_checks request_checks
 demand_1 = record {
   reads_piece = λ frame. reads _ _ _ (read_piece frame) refl (read_piece_in_order frame) (some_piece (read_piece frame));
-  reads_entry = λ edition frame. reads _ _ _ (read_entry edition frame) refl (read_entry_in_order edition frame) (some_entry (read_entry edition frame));
+  reads_entry = λ frame. reads _ _ _ (read_entry frame) refl (read_entry_in_order frame) (some_entry (read_entry frame));
   reads_request = λ frame. reads _ _ _ (read_request frame) refl (read_request_in_order frame) (some_request (read_request frame));
   takes = λ number l lent frame. let s = reception_in number l lent in adds number l lent _ _ _ (taking_frame s frame) refl (take_in_order s frame);
   takes_piece = λ number l lent x. let s = reception_in number l lent in adds number l lent _ _ _ (taking s x) refl (piece.take-in-order s x);
@@ -278,6 +278,5 @@ demand_1 = record {
   reads_head = λ protocol frame. reads _ _ _ (read_head protocol frame) refl (read_head_in_order protocol frame) (some_head (read_head protocol frame));
   writes_head = λ out destination source protocol. writes _ _ out (write_head out destination source protocol) refl
       (write_head_in_order out destination source protocol);
-  reads_header = λ edition s number. reads _ _ _ (read_header edition s number) refl (read_header_in_order edition s number)
-      (some_header (read_header edition s number));
+  reads_header = λ s number. reads _ _ _ (read_header s number) refl (read_header_in_order s number) (some_header (read_header s number));
 }

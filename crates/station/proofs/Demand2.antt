@@ -8,14 +8,11 @@ use native.Mathlib.Nat.{zero-add}
 use lib.ListN.{length, drop}
 use Rattle.reason.specs.Answer.{accepted}
 use Rattle.octets.specs.Runs.{put_in}
-use Rattle.header.specs.declared.Edition.{Edition}
-use Rattle.header.proofs.Editions.{header_editions}
 use Rattle.frame.specs.declared.Piece.{Piece}
 use Rattle.frame.specs.declared.Entry.{Entry}
 use Rattle.frame.specs.Piece.{read_piece}
 use Rattle.frame.specs.Entry.{read_entry}
 use Rattle.frame.proofs.Says.{piece_says, entry_says, entry_is_read, accepted_entry_keeps, eight_says, not_piece_and_entry}
-use Rattle.frame.proofs.Editions.{entry_editions}
 use Rattle.frame.proofs.RoundTrip as piece
 use Rattle.holes.proofs.HoleLaws.{hole_is, hole_first, none_only_if}
 use Rattle.request.specs.declared.Asks.{Asks}
@@ -44,9 +41,8 @@ not_piece_and_request : (frame : List ℕ) (p : Piece) (r : Request) → read_pi
 not_piece_and_request frame p r x y = flags_differ r.asks (sym (request_says frame r y).flags ∙ (piece_says frame p x).flags)
 
 -- a request's protocol is that of files
-not_entry_and_request : (edition : Edition) (frame : List ℕ) (e : Entry) (r : Request) → read_entry edition frame ≡ accepted e
-    → read_request frame ≡ accepted r → ⊥
-not_entry_and_request edition frame e r x y = omega (arith, (entry_says edition frame e x).head.of_protocol, (request_says frame r y).head.of_protocol)
+not_entry_and_request : (frame : List ℕ) (e : Entry) (r : Request) → read_entry frame ≡ accepted e → read_request frame ≡ accepted r → ⊥
+not_entry_and_request frame e r x y = omega (arith, (entry_says frame e x).head.of_protocol, (request_says frame r y).head.of_protocol)
 
 -- a run at the front of a target, and the target behind it
 fills_the_first_bytes : (target run : List ℕ) → put_in target 0 run ≡ run ++ drop (length run) target
@@ -64,8 +60,6 @@ demand_2 = record {
   entry_is_read = entry_is_read;
   entry_keeps = accepted_entry_keeps;
   eight_says = eight_says;
-  header_editions = header_editions;
-  entry_editions = entry_editions;
   not_piece_and_entry = not_piece_and_entry;
   not_piece_and_request = not_piece_and_request;
   not_entry_and_request = not_entry_and_request;

@@ -11,7 +11,7 @@ pub orders : Orders
 unfolding head_checks piece_checks entry_checks request_checks
 orders = record {
   in_a_piece = λ frame. refl;
-  in_an_entry = λ edition frame. refl;
+  in_an_entry = λ frame. refl;
   in_a_request = λ frame. refl;
   in_taking = λ s frame. refl;
   in_opening = λ l map buffer. refl;

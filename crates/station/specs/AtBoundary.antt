@@ -6,7 +6,6 @@ use Rattle.reason.specs.Order.{Check, First, NoneHolds}
 use Rattle.ax25.specs.declared.Address.{Address}
 use Rattle.ax25.specs.declared.Head.{Head}
 use Rattle.ax25.specs.Address.{is_writable}
-use Rattle.header.specs.declared.Edition.{Edition}
 use Rattle.header.specs.Header.{header_checks}
 use Rattle.frame.specs.Piece.{piece_order, piece_bytes}
 use Rattle.frame.specs.Entry.{entry_order, header_bytes}
@@ -52,9 +51,8 @@ pub record AtBoundary : Type 0 where
   pub station_save : (s : Reception) (lent : out.Sized) → Returns (saving_checks s lent.target) lent (out.SavesOut s lent)
   pub station_load : (saved : List ℕ) (lent : Reception) → Returns (loading_checks saved lent.map lent.buffer) lent (out.LoadsOut saved lent)
   pub station_piece : (frame lent : List ℕ) → Returns (piece_order frame) lent (PieceOut frame lent)
-  pub station_entry : (edition : Edition) (frame : List ℕ) (lent : EntryTold) → Returns (entry_order edition frame) lent (EntryOut edition frame lent)
-  pub station_header : (edition : Edition) (bytes : List ℕ) (number : ℕ) (lent : HeaderTold)
-      → Returns (header_checks edition bytes number) lent (HeaderOut edition bytes number lent)
+  pub station_entry : (frame : List ℕ) (lent : EntryTold) → Returns (entry_order frame) lent (EntryOut frame lent)
+  pub station_header : (bytes : List ℕ) (number : ℕ) (lent : HeaderTold) → Returns (header_checks bytes number) lent (HeaderOut bytes number lent)
   pub station_write_fill : (w : Wanted) (place : ℕ) (lent : WrittenRequest)
       → Returns (fill_checks w place lent.target) lent (FillsOut w place lent)
   pub station_write_start : (head : Head) (number : ℕ) (lent : List ℕ) → Returns (start_checks head lent) lent (StartsOut head number lent)
@@ -74,8 +72,8 @@ pub record AtBoundary : Type 0 where
   -- where the bytes of a piece and the header of an entry are told to stand, there they stand: what `piece_bytes` and `header_bytes` hand out
   pub piece_stands_there : (frame lent left : List ℕ) (r : ℕ) → PieceOut frame lent r left → r ≡ 0
       → take (get_or left 6 0) (drop (get_or left 5 0) frame) ≡ piece_bytes frame
-  pub header_stands_there : (edition : Edition) (frame : List ℕ) (lent left : EntryTold) (r : ℕ) → EntryOut edition frame lent r left → r ≡ 0
-      → take (get_or left.told 8 0) (drop (get_or left.told 7 0) frame) ≡ header_bytes edition frame
+  pub header_stands_there : (frame : List ℕ) (lent left : EntryTold) (r : ℕ) → EntryOut frame lent r left → r ≡ 0
+      → take (get_or left.told 8 0) (drop (get_or left.told 7 0) frame) ≡ header_bytes frame
   -- an address that can be written is told back by its number; a number whose eighth byte, the bit, is above 1 tells none that can be written
   pub address_told_back : (a : Address) → is_writable a ≡ true → address_of (address_number a) ≡ a
   pub too_large_a_number : (n : ℕ) → 2 * 256 ^ 7 ≤ n → is_writable (address_of n) ≡ false

@@ -6,7 +6,6 @@ use Rattle.reason.specs.Answer.{telling}
 use Rattle.ax25.specs.declared.Head.{Head}
 use Rattle.ax25.specs.Address.{is_writable}
 use Rattle.ax25.specs.Bits.{head_with, frame_with}
-use Rattle.header.specs.declared.Edition.{Edition}
 use Rattle.frame.specs.declared.Piece.{Piece}
 use Rattle.frame.specs.declared.Entry.{Entry}
 use Rattle.frame.specs.Piece.{read_piece, piece_bytes}
@@ -41,9 +40,8 @@ pub record OnlyTheBits : Type 0 where
   -- a piece and its bytes, an entry and its file header, a request and its holes
   pub pieces : (to from : ℕ) (frame : List ℕ) → read_piece (frame_with to from frame) ≡ telling (piece_with to from) (read_piece frame)
   pub bytes : (to from : ℕ) (frame : List ℕ) → piece_bytes (frame_with to from frame) ≡ piece_bytes frame
-  pub entries : (to from : ℕ) (edition : Edition) (frame : List ℕ)
-      → read_entry edition (frame_with to from frame) ≡ telling (entry_with to from) (read_entry edition frame)
-  pub headers : (to from : ℕ) (edition : Edition) (frame : List ℕ) → header_bytes edition (frame_with to from frame) ≡ header_bytes edition frame
+  pub entries : (to from : ℕ) (frame : List ℕ) → read_entry (frame_with to from frame) ≡ telling (entry_with to from) (read_entry frame)
+  pub headers : (to from : ℕ) (frame : List ℕ) → header_bytes (frame_with to from frame) ≡ header_bytes frame
   pub requests : (to from : ℕ) (frame : List ℕ) → read_request (frame_with to from frame) ≡ telling (request_with to from) (read_request frame)
   pub holes : (to from : ℕ) (frame : List ℕ) → holes_of (frame_with to from frame) ≡ holes_of frame
   -- what is taken in, and the reception afterwards, are the same

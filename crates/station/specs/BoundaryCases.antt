@@ -1,7 +1,7 @@
 -- Worked cases of the boundary (01, "What the station does"): every value that a function tells, and what it leaves of lent numbers and
 -- bytes, most of which were 9 before.
 -- Assumes nothing.
-use Rattle.std.specs.Prelude.{◌≡◌, true, false, List, [], ◌∷◌, ◌++◌, ℕ, ◌+◌, ◌*◌, ◌^◌, set, take, replicate}
+use Rattle.std.specs.Prelude.{◌≡◌, false, List, [], ◌∷◌, ◌++◌, ℕ, ◌+◌, ◌*◌, ◌^◌, set, drop, replicate}
 use Rattle.remainder.specs.Check.{with_check}
 use Rattle.remainder.specs.Figure.{figure32}
 use Rattle.ax25.specs.declared.Head.{Head}
@@ -9,15 +9,12 @@ use Rattle.ax25.specs.Address.{is_writable}
 use Rattle.ax25.specs.Head.{head_bytes}
 use Rattle.ax25.specs.Bits.{address_with}
 use Rattle.ax25.specs.Examples.{va3sfl, uosat5}
-use Rattle.header.specs.declared.Edition.{Edition}
-use Rattle.header.specs.declared.Edition.TheVariants.{Old, New}
 use Rattle.header.specs.declared.Upload.TheVariants.{Absent}
 use Rattle.frame.specs.Making.{piece_frame}
-use Rattle.frame.specs.Examples.{header32, without_upload}
 use Rattle.request.specs.Writing.{Wanted}
 use Rattle.station.specs.AddressNumber.{address_number, address_of}
 use Rattle.station.specs.Exports.{OpensOut, Counted, TakesOut, JoinsOut, ListsOut, SavesOut, LoadsOut}
-use Rattle.station.specs.FrameExports.{PieceOut, edition_of, EntryTold, EntryOut, HeaderTold, HeaderOut, extension_number, uploaded_of, upload_of}
+use Rattle.station.specs.FrameExports.{PieceOut, EntryTold, EntryOut, HeaderTold, HeaderOut, extension_number, uploaded_of, upload_of}
 use Rattle.station.specs.RequestExports.{head_told, WrittenRequest, FillsOut, StartsOut, RequestOut, HoleOut}
 use Rattle.taking.specs.Examples.{front}
 use Rattle.station.specs.Cases.{twenty, middle, later}
@@ -44,31 +41,20 @@ abbrev pub entry_frame : List ℕ
 entry_frame =
     head_bytes va3sfl (uosat5 11) 0xBD
     ++ with_check (0x60 ∷ 0x67 ∷ 0xAE ∷ 0x02 ∷ 0x01 ∷ 0x00 ∷ 0x00 ∷ 0x00 ∷ 0x00 ∷ 0x11 ∷ 0x12 ∷ 0x13 ∷ 0x14 ∷ 0x21 ∷ 0x22 ∷ 0x23 ∷ 0x24 ∷ []
-    ++ set (set (set header32 7 0x02) 8 0x01) 70 0x87)
+    ++ set (set (set (drop 17 figure32) 7 0x02) 8 0x01) 70 0x87)
 
 abbrev pub entry_lent : EntryTold
 entry_lent = record { told = replicate 9 9; values = replicate 12 9 }
 
--- the values of figure 3.2's header, with a sum, the body's offset, and whether item 12 is there and its time
-abbrev pub figure_values_by : ℕ → ℕ → ℕ → ℕ → List ℕ
-figure_values_by sum body uploaded upload =
-    0x3432313139394C42 ∷ 0x202020 ∷ 0x06E0 ∷ 0x383B2D49 ∷ 0x383C7EE1 ∷ 0 ∷ 0xCA ∷ 0x44FB ∷ sum ∷ body ∷ uploaded ∷ upload ∷ []
-
+-- the values of figure 3.2's header, with a sum and the body's offset
 abbrev pub figure_values : ℕ → ℕ → List ℕ
-figure_values sum body = figure_values_by sum body 1 0x383C7EE0
-
--- figure 3.2 as a frame whose header is without item 12
-abbrev pub entry_without_upload : List ℕ
-entry_without_upload = head_bytes va3sfl (uosat5 11) 0xBD ++ with_check (take 17 figure32 ++ without_upload)
-
--- what holds under both editions
-abbrev pub UnderBoth : (Edition → Type 0) → Type 0
-UnderBoth holds = holds Old × holds New
+figure_values sum body =
+    0x3432313139394C42 ∷ 0x202020 ∷ 0x06E0 ∷ 0x383B2D49 ∷ 0x383C7EE1 ∷ 0 ∷ 0xCA ∷ 0x44FB ∷ sum ∷ body ∷ 1 ∷ 0x383C7EE0 ∷ []
 
 -- the start of a file: the header of figure 3.2 with item 0B beyond the header's length, so that the two differ, and the sum to match;
 -- two bytes more behind it
 abbrev pub file_start : List ℕ
-file_start = set (set header32 75 0x60) 70 0x94 ++ 0x41 ∷ 0x42 ∷ []
+file_start = set (set (drop 17 figure32) 75 0x60) 70 0x94 ++ 0x41 ∷ 0x42 ∷ []
 
 abbrev pub header_lent : HeaderTold
 header_lent = record { size = 9; values = replicate 12 9 }
@@ -123,24 +109,15 @@ pub record BoundaryCases : Type 0 where
       })
   pub piece_out : PieceOut three_bytes (replicate 7 9) 0 (va3sfl_number ∷ uosat5_number ∷ 0x01020304 ∷ 5 ∷ 0x060708 ∷ 25 ∷ 3 ∷ [])
   pub piece_refused : PieceOut [] (replicate 7 9) 1 (replicate 7 9)
-  pub edition_asked_for : (edition_of false ≡ Old) × (edition_of true ≡ New)
-  pub entry_out : UnderBoth (λ edition. EntryOut edition entry_frame entry_lent 0
+  pub entry_out : EntryOut entry_frame entry_lent 0
       (record {
         told = va3sfl_number ∷ uosat5_number ∷ 0x60 ∷ 0x0102AE67 ∷ 0 ∷ 0x14131211 ∷ 0x24232221 ∷ 33 ∷ 80 ∷ [];
         values = figure_values 0x0C87 0x50;
-      }))
-  pub entry_under_old : EntryOut Old entry_without_upload entry_lent 0
-      (record {
-        told = va3sfl_number ∷ uosat5_number ∷ 0x20 ∷ 0xAE67 ∷ 0 ∷ 0x383C7EE0 ∷ 0x383DCFEE ∷ 33 ∷ 73 ∷ [];
-        values = figure_values_by 0x0A95 73 0 0;
       })
-  pub entry_under_new : EntryOut New entry_without_upload entry_lent 8 entry_lent
-  pub header_out : UnderBoth (λ edition. HeaderOut edition file_start 0xAE67 header_lent 0
-      (record { size = 80; values = figure_values 0x0C94 0x60 }))
-  pub header_under_old : HeaderOut Old without_upload 0xAE67 header_lent 0 (record { size = 73; values = figure_values_by 0x0A95 73 0 0 })
-  pub header_under_new : HeaderOut New without_upload 0xAE67 header_lent 8 header_lent
-  pub header_of_another : UnderBoth (λ edition. HeaderOut edition file_start 0xAE68 header_lent 8 header_lent)
-  pub header_broken : UnderBoth (λ edition. HeaderOut edition (set file_start 70 0x84) 0xAE67 header_lent 8 header_lent)
+  pub header_out : HeaderOut file_start 0xAE67 header_lent 0
+      (record { size = 80; values = figure_values 0x0C94 0x60 })
+  pub header_of_another : HeaderOut file_start 0xAE68 header_lent 8 header_lent
+  pub header_broken : HeaderOut (set file_start 70 0x84) 0xAE67 header_lent 8 header_lent
   pub extension_out : extension_number (record { c0 = 1; c1 = 2; c2 = 3 }) ≡ 0x030201
   pub no_upload : (uploaded_of Absent ≡ 0) × (upload_of Absent ≡ 0)
   pub write_request_out : FillsOut (asked uosat5_number va3sfl_number) 0 request_lent 0

@@ -10,7 +10,6 @@ use Rattle.ax25.specs.declared.Role.{Role}
 use Rattle.ax25.specs.declared.Head.{Head}
 use Rattle.ax25.specs.Address.{address_at, address_read_checks, read_address, address_answer, address_write_checks, write_address}
 use Rattle.ax25.specs.Head.{head_checks, head_of, read_head, head_answer, head_write_checks, write_head}
-use Rattle.header.specs.declared.Edition.{Edition}
 use Rattle.header.specs.Header.{header_checks, header_of, read_header, header_answer}
 use Rattle.frame.specs.Piece.{piece_order, piece_of, read_piece, piece_answer}
 use Rattle.frame.specs.Entry.{entry_order, entry_of, read_entry, entry_answer}
@@ -60,10 +59,8 @@ nothing = tt {0}
 -- Every operation of "Numbered reasons", with 01's words for its order, and the operations that they are made of.
 pub record Demand1 : Type 0 where
   -- "Order in a frame: 1 (below 16), 2, 3, 4, 7 (over 255), 1 (information), 6, 5, 14, 7 (no data), 8": a piece, and an entry
-  -- under either edition of its header (02, C-15)
   pub reads_piece : (frame : List ℕ) → Answers (piece_order frame) (piece_of frame) piece_answer nothing (λ r left. piece_answer r ≡ read_piece frame)
-  pub reads_entry : (edition : Edition) (frame : List ℕ)
-      → Answers (entry_order edition frame) (entry_of frame) entry_answer nothing (λ r left. entry_answer r ≡ read_entry edition frame)
+  pub reads_entry : (frame : List ℕ) → Answers (entry_order frame) (entry_of frame) entry_answer nothing (λ r left. entry_answer r ≡ read_entry frame)
   -- "A request frame: 1, 2, 3, 4, 7, 1, 5, 7, 10"
   pub reads_request : (frame : List ℕ)
       → Answers (request_order frame) (request_of frame) request_answer nothing (λ r left. request_answer r ≡ read_request frame)
@@ -101,7 +98,7 @@ pub record Demand1 : Type 0 where
       → Answers (loading_checks saved lent.map lent.buffer) (recorded_in saved) record_answer lent
       (λ r left. Loads saved lent.map lent.buffer r left.map left.buffer)
   -- An address alone: 2 where it is read, 2 and 12 where it is written. A head alone: the first five of "Order in a frame" where it is
-  -- read, 2 (either address) and 12 where it is written. A file header alone, under either edition: 8.
+  -- read, 2 (either address) and 12 where it is written. A file header alone: 8.
   pub reads_address : (role : Role) (s : List ℕ) (at : ℕ)
       → Answers (address_read_checks role s at) (address_at s at) address_answer nothing (λ r left. address_answer r ≡ read_address role s at)
   pub writes_address : (role : Role) (out : List ℕ) (at : ℕ) (a : Address)
@@ -110,5 +107,5 @@ pub record Demand1 : Type 0 where
       → Answers (head_checks protocol frame) (head_of frame) head_answer nothing (λ r left. head_answer r ≡ read_head protocol frame)
   pub writes_head : (out : List ℕ) (destination source : Address) (protocol : ℕ)
       → Answers (head_write_checks out destination source) tt outcome out (Writes out (write_head out destination source protocol))
-  pub reads_header : (edition : Edition) (s : List ℕ) (number : ℕ)
-      → Answers (header_checks edition s number) (header_of s) header_answer nothing (λ r left. header_answer r ≡ read_header edition s number)
+  pub reads_header : (s : List ℕ) (number : ℕ)
+      → Answers (header_checks s number) (header_of s) header_answer nothing (λ r left. header_answer r ≡ read_header s number)

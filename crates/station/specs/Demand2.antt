@@ -12,17 +12,14 @@ use Rattle.ax25.specs.declared.Role.{Role}
 use Rattle.ax25.specs.declared.Head.{Head}
 use Rattle.ax25.specs.Address.{is_writable, address_bytes, read_address, write_address}
 use Rattle.ax25.specs.Information.{information_of}
-use Rattle.header.specs.declared.Edition.{Edition}
 use Rattle.header.specs.Header.{header_length}
 use Rattle.header.specs.Rules.{Rules}
-use Rattle.header.specs.Editions.{HeaderEditions}
 use Rattle.frame.specs.declared.Piece.{Piece}
 use Rattle.frame.specs.declared.Entry.{Entry}
 use Rattle.frame.specs.Piece.{read_piece, piece_bytes}
 use Rattle.frame.specs.Entry.{header_part, entry_of, read_entry}
 use Rattle.frame.specs.Making.{piece_frame, MakeablePiece}
 use Rattle.frame.specs.Says.{PieceSays, EntrySays, EntryRules}
-use Rattle.frame.specs.Editions.{EntryEditions}
 use Rattle.holes.specs.declared.Hole.{Hole}
 use Rattle.reception.specs.Reception.{Reception, longest, wrong_length, short_space}
 use Rattle.holes.specs.Holes.{IsHole}
@@ -72,25 +69,17 @@ pub record Demand2 : Type 0 where
   pub piece_is_made : (frame : List ℕ) (p : Piece) → AllBytes frame → read_piece frame ≡ accepted p
       → (piece_frame p (piece_bytes frame) ≡ frame) × MakeablePiece p (piece_bytes frame)
   -- ---- Directory entries: both addresses, all fields, and the value of each mandatory item and of item 12.
-  -- An entry is accepted exactly if it keeps every rule of the edition; reason 8 says that the header breaks one, or that something
-  -- follows it.
-  pub entry_says : (edition : Edition) (frame : List ℕ) (e : Entry) → read_entry edition frame ≡ accepted e → EntrySays edition frame e
-  pub entry_is_read : (edition : Edition) (frame : List ℕ) → EntryRules edition frame → read_entry edition frame ≡ accepted (entry_of frame)
-  pub entry_keeps : (edition : Edition) (frame : List ℕ) (e : Entry) → read_entry edition frame ≡ accepted e → EntryRules edition frame
-  pub eight_says : (edition : Edition) (frame : List ℕ) → read_entry edition frame ≡ refused 8
-      → Rules edition (header_part (information_of frame)) (number_at 4 (information_of frame) 1)
+  -- An entry is accepted exactly if it keeps every rule; reason 8 says that the header breaks one, or that something follows it.
+  pub entry_says : (frame : List ℕ) (e : Entry) → read_entry frame ≡ accepted e → EntrySays frame e
+  pub entry_is_read : (frame : List ℕ) → EntryRules frame → read_entry frame ≡ accepted (entry_of frame)
+  pub entry_keeps : (frame : List ℕ) (e : Entry) → read_entry frame ≡ accepted e → EntryRules frame
+  pub eight_says : (frame : List ℕ) → read_entry frame ≡ refused 8
+      → Rules (header_part (information_of frame)) (number_at 4 (information_of frame) 1)
       → header_length (header_part (information_of frame)) ≡ length (header_part (information_of frame)) → ⊥
-  -- ---- The editions of a file header (02, C-15): what the new one accepts means the same under the old one, and the two answers differ
-  -- exactly where the old one accepts without item 12, which is 8 in the new one: for a header, and for an entry, whose order of reasons
-  -- differs in that one test.
-  pub header_editions : (s : List ℕ) (number : ℕ) → HeaderEditions s number
-  pub entry_editions : (frame : List ℕ) → EntryEditions frame
   -- ---- No frame has two meanings, whichever operation reads it.
-  pub not_piece_and_entry : (edition : Edition) (frame : List ℕ) (p : Piece) (e : Entry) → read_piece frame ≡ accepted p
-      → read_entry edition frame ≡ accepted e → ⊥
+  pub not_piece_and_entry : (frame : List ℕ) (p : Piece) (e : Entry) → read_piece frame ≡ accepted p → read_entry frame ≡ accepted e → ⊥
   pub not_piece_and_request : (frame : List ℕ) (p : Piece) (r : Request) → read_piece frame ≡ accepted p → read_request frame ≡ accepted r → ⊥
-  pub not_entry_and_request : (edition : Edition) (frame : List ℕ) (e : Entry) (r : Request) → read_entry edition frame ≡ accepted e
-      → read_request frame ≡ accepted r → ⊥
+  pub not_entry_and_request : (frame : List ℕ) (e : Entry) (r : Request) → read_entry frame ≡ accepted e → read_request frame ≡ accepted r → ⊥
   -- ---- Bit 7 of the two SSID bytes is told and written, and decides nothing (02, C-12).
   pub only_the_bits : OnlyTheBits
   -- ---- Holes: what is listed is a longest run of unheld positions below L, the first that starts at the place or later; 15 means that

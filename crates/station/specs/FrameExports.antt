@@ -1,12 +1,10 @@
--- What the boundary tells of frames and of file headers (01, "What the station does"; 02, C-15): all values as numbers, those of a frame
--- in the order of their bytes and those of a header in the order of its items' ids.
+-- What the boundary tells of frames and of file headers (01, "What the station does"): all values as numbers, those of a frame in the
+-- order of their bytes and those of a header in the order of its items' ids.
 -- Assumes nothing.
-use Rattle.std.specs.Prelude.{Bool, true, false, List, [], ◌∷◌, ℕ, ◌+◌, length}
+use Rattle.std.specs.Prelude.{List, [], ◌∷◌, ℕ, ◌+◌, length}
 use Rattle.octets.specs.Numbers.{number_at}
 use Rattle.ax25.specs.Head.{head_length}
 use Rattle.ax25.specs.Information.{information_of}
-use Rattle.header.specs.declared.Edition.{Edition}
-use Rattle.header.specs.declared.Edition.TheVariants.{Old, New}
 use Rattle.header.specs.declared.Name.{Name}
 use Rattle.header.specs.declared.Extension.{Extension}
 use Rattle.header.specs.declared.Upload.{Upload}
@@ -93,14 +91,9 @@ pub record EntryTold : Type 0 where
 abbrev pub entry_told : List ℕ → Entry → EntryTold
 entry_told frame e = record { told = entry_numbers frame e; values = header_numbers e.header }
 
--- the edition that a host program asks for: the new one, or not
-abbrev pub edition_of : Bool → Edition
-edition_of true = New
-edition_of false = Old
-
--- `station_entry`, under an edition
-abbrev pub EntryOut : Edition → List ℕ → EntryTold → ℕ → EntryTold → Type 0
-EntryOut edition frame = Exported (read_entry edition frame) (entry_told frame)
+-- `station_entry`
+abbrev pub EntryOut : List ℕ → EntryTold → ℕ → EntryTold → Type 0
+EntryOut frame = Exported (read_entry frame) (entry_told frame)
 
 -- what is told of a file header: how many bytes it has itself, from AA 55 to the end item, and its values
 pub record HeaderTold : Type 0 where
@@ -110,6 +103,6 @@ pub record HeaderTold : Type 0 where
 abbrev pub header_told : Header → HeaderTold
 header_told h = record { size = h.size; values = header_numbers h }
 
--- `station_header`, under an edition, of the header that the bytes start with and of the file with the number
-abbrev pub HeaderOut : Edition → List ℕ → ℕ → HeaderTold → ℕ → HeaderTold → Type 0
-HeaderOut edition bytes number = Exported (read_header edition bytes number) header_told
+-- `station_header`, of the header that the bytes start with and of the file with the number
+abbrev pub HeaderOut : List ℕ → ℕ → HeaderTold → ℕ → HeaderTold → Type 0
+HeaderOut bytes number = Exported (read_header bytes number) header_told

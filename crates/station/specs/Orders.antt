@@ -3,7 +3,6 @@
 use Rattle.std.specs.Prelude.{◌≡◌, List, [], ◌∷◌, ℕ}
 use Rattle.reason.specs.Order.{Check, check}
 use Rattle.ax25.specs.declared.Head.{Head}
-use Rattle.header.specs.declared.Edition.{Edition}
 use Rattle.frame.specs.Piece.{piece_order}
 use Rattle.frame.specs.Entry.{entry_order}
 use Rattle.reception.specs.Reception.{Reception}
@@ -25,7 +24,7 @@ pub record Orders : Type 0 where
   -- "Order in a frame: 1 (below 16), 2, 3, 4, 7 (over 255), 1 (information), 6, 5, 14, 7 (no data), 8": a piece has no
   -- 14 and 8, an entry no 7 (no data)
   pub in_a_piece : (frame : List ℕ) → numbers_of (piece_order frame) ≡ 1 ∷ 2 ∷ 3 ∷ 4 ∷ 7 ∷ 1 ∷ 6 ∷ 5 ∷ 7 ∷ []
-  pub in_an_entry : (edition : Edition) (frame : List ℕ) → numbers_of (entry_order edition frame) ≡ 1 ∷ 2 ∷ 3 ∷ 4 ∷ 7 ∷ 1 ∷ 6 ∷ 5 ∷ 14 ∷ 8 ∷ []
+  pub in_an_entry : (frame : List ℕ) → numbers_of (entry_order frame) ≡ 1 ∷ 2 ∷ 3 ∷ 4 ∷ 7 ∷ 1 ∷ 6 ∷ 5 ∷ 14 ∷ 8 ∷ []
   -- "A request frame: 1, 2, 3, 4, 7, 1, 5, 7, 10"
   pub in_a_request : (frame : List ℕ) → numbers_of (request_order frame) ≡ 1 ∷ 2 ∷ 3 ∷ 4 ∷ 7 ∷ 1 ∷ 5 ∷ 7 ∷ 10 ∷ []
   -- "Taking in a piece: the frame's reasons, then 7 (L), 12, 9, 10, 11"

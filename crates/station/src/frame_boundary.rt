@@ -5,11 +5,11 @@
 // its items' ids. An address is one number (`addresses.rt`), and so are a name and an extension, of their bytes, least
 // significant byte first. The contracts cite `specs/FrameExports.antt`.
 ghost use Rattle.std.specs.Prelude.{◌≡◌};
-ghost use Rattle.station.specs.FrameExports.{PieceOut, edition_of, EntryOut, HeaderOut, header_numbers, name_number, extension_number, uploaded_of, upload_of};
+ghost use Rattle.station.specs.FrameExports.{PieceOut, EntryOut, HeaderOut, header_numbers, name_number, extension_number, uploaded_of, upload_of};
 
 use super::addresses;
 use frame::{DATA_AT, EntryRead, HEADER_AT, PieceRead};
-use header::{Edition, Extension, Header, HeaderRead, Name, Upload};
+use header::{Extension, Header, HeaderRead, Name, Upload};
 
 // Reads a frame as a file piece, as `frame::read_piece`, and tells destination, source, number, type, offset, and where
 // the piece's bytes stand in the frame, the place of the first and how many: 1, 2, 3, 4, 7, 1, 6, 5, 7.
@@ -35,21 +35,15 @@ pub extern "C" fn station_piece(frame: &[u8], told: &mut [u64; 7]) -> u8
     }
 }
 
-// Reads a frame as a directory entry, as `frame::read_entry` does, under the new edition where `new_edition` is true and
-// else under the old one, and tells destination, source, flags, number, offset, time old, time new, and where its file
-// header stands in the frame, the place of the first byte and how many; and the values of that header: 1, 2, 3, 4, 7, 1,
-// 6, 5, 14, 8.
+// Reads a frame as a directory entry, as `frame::read_entry`, and tells destination, source, flags, number, offset, time
+// old, time new, and where its file header stands in the frame, the place of the first byte and how many; and the
+// values of that header: 1, 2, 3, 4, 7, 1, 6, 5, 14, 8.
 #[unsafe(no_mangle)]
-pub extern "C" fn station_entry(
-    frame: &[u8],
-    new_edition: bool,
-    told: &mut [u64; 9],
-    values: &mut [u64; 12],
-) -> u8
-    ensures { EntryOut (edition_of new_edition) frame.now (record { told = told.entry.now; values = values.old })
+pub extern "C" fn station_entry(frame: &[u8], told: &mut [u64; 9], values: &mut [u64; 12]) -> u8
+    ensures { EntryOut frame.now (record { told = told.entry.now; values = values.old })
         result (record { told = told.exit.now; values = values.new }) }
 {
-    let read = frame::read_entry(frame, edition_of(new_edition));
+    let read = frame::read_entry(frame);
     match read {
         EntryRead::Accepted(entry) => {
             let header = entry.header;
@@ -71,21 +65,20 @@ pub extern "C" fn station_entry(
     }
 }
 
-// Reads the file header that the bytes start with, of the file with the number, as `header::read_header` does, under the
-// new edition where `new_edition` is true and else under the old one, and tells how many bytes the header itself has,
-// from AA 55 to the end item, and its values: 8. What follows the header is not looked at.
+// Reads the file header that the bytes start with, of the file with the number, as `header::read_header`, and tells
+// how many bytes the header itself has, from AA 55 to the end item, and its values: 8. What follows the header is not
+// looked at.
 #[unsafe(no_mangle)]
 pub extern "C" fn station_header(
     bytes: &[u8],
     number: u32,
-    new_edition: bool,
     size: &mut usize,
     values: &mut [u64; 12],
 ) -> u8
-    ensures { HeaderOut (edition_of new_edition) bytes.now number (record { size = size.entry.now; values = values.old })
+    ensures { HeaderOut bytes.now number (record { size = size.entry.now; values = values.old })
         result (record { size = size.exit.now; values = values.new }) }
 {
-    match header::read_header(bytes, number, edition_of(new_edition)) {
+    match header::read_header(bytes, number) {
         HeaderRead::Accepted(header) => {
             *size = header.size;
             tell_values(header, values);
@@ -150,16 +143,5 @@ fn upload_of(item: Upload) -> u64
     match item {
         Upload::Time(t) => t as u64,
         Upload::Absent => 0,
-    }
-}
-
-// The edition that a host program asks for: the new one where it says so, and else the old one.
-fn edition_of(new_edition: bool) -> Edition
-    ensures { result ≡ edition_of new_edition }
-{
-    if new_edition {
-        Edition::New
-    } else {
-        Edition::Old
     }
 }

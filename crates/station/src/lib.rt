@@ -14,12 +14,11 @@
 //   read_piece     a frame as a file piece                        1, 2, 3, 4, 7, 1, 6, 5, 7  frame, specs/Piece
 //   piece_bytes,   the piece itself, a part of the frame          –                          frame, specs/Piece
 //   piece_of
-//   read_entry     a frame as a directory entry, under an         1, 2, 3, 4, 7, 1, 6, 5,    frame, specs/Entry
-//                  edition of its header                          14, 8
+//   read_entry     a frame as a directory entry                   1, 2, 3, 4, 7, 1, 6, 5,    frame, specs/Entry
+//                                                                 14, 8
 //   header_bytes,  its file header, a part of the frame           –                          frame, specs/Entry
 //   header_of
-//   read_header    the file header that a slice starts with,      8                          header, specs/Header
-//                  under an edition
+//   read_header    the file header that a slice starts with       8                          header, specs/Header
 //   item_bytes     an item's data, a part of the header           –                          header, specs/Data
 //   write_fill     a request for holes                            2, 7, 12, 15, 12           request, specs/Writing
 //   write_start    a request for the start of a file              2, 12                      request, specs/Writing
@@ -62,7 +61,7 @@ pub mod frame_boundary;
 pub mod request_boundary;
 
 pub use frame::{header_bytes, header_of, piece_bytes, piece_of, read_entry, read_piece};
-pub use header::{Edition, item_bytes, read_header};
+pub use header::{item_bytes, read_header};
 pub use holes::list;
 pub use reception::{Added, count_held, is_held, join, open};
 pub use record::{load, map_of, read_record, save};

@@ -1,5 +1,4 @@
-//! The sample frames: two figures of the thesis, a made-up file of a survey as two stations heard it, and the directory
-//! entry of an older one.
+//! The sample frames: two figures of the thesis, and a made-up file of a survey as two stations heard it.
 use thoweldeck::remainder;
 
 /// Each sample's name, with its folder, and its bytes.
@@ -7,9 +6,8 @@ pub fn samples() -> Vec<(String, Vec<u8>)> {
     let mut samples = vec![
         ("figures/figure-3.2.hex".to_string(), hexadecimal(&framed(0xBD, FIGURE_3_2))),
         ("figures/figure-3.3.hex".to_string(), hexadecimal(&framed(0xBB, FIGURE_3_3))),
-        ("older/entry.frame".to_string(), entry(&older())),
-        ("survey/entry.frame".to_string(), entry(&survey())),
-        ("survey/whole.file".to_string(), survey().bytes()),
+        ("survey/entry.frame".to_string(), entry()),
+        ("survey/whole.file".to_string(), file()),
     ];
     samples.extend(heard("first", first_station()));
     samples.extend(heard("second", second_station()));
@@ -51,29 +49,8 @@ fn second_station() -> Vec<Vec<u8>> {
     ]
 }
 
-/// A made-up file, made and changed at one time.
-struct File {
-    number: u32,
-    name: &'static [u8; 8],
-    made: u32,
-    /// When it was uploaded, which the header of an older file does not say.
-    uploaded: Option<u32>,
-    body: Vec<u8>,
-}
-
 const NUMBER: u32 = 1201;
 const MADE: u32 = 1_790_000_000;
-
-// The survey's file.
-fn survey() -> File {
-    File { number: NUMBER, name: b"SURVEY  ", made: MADE, uploaded: Some(MADE + 7200), body: readings() }
-}
-
-// A file of an archive, of 1992, whose header has no item 12.
-fn older() -> File {
-    let body = b"Lake survey, spring course of 1992. Gauge 3 was under ice.\r\n".to_vec();
-    File { number: 311, name: b"GAUGE3  ", made: 700_000_000, uploaded: None, body }
-}
 
 // A piece of the survey's file in a frame.
 fn piece(number: u32, offset: usize, size: usize) -> Vec<u8> {
@@ -81,64 +58,56 @@ fn piece(number: u32, offset: usize, size: usize) -> Vec<u8> {
     information.extend(number.to_le_bytes());
     information.push(0);
     information.extend(&(offset as u32).to_le_bytes()[..3]);
-    information.extend(&survey().bytes()[offset..offset + size]);
+    information.extend(&file()[offset..offset + size]);
     checked(0xBB, information)
 }
 
-// The directory entry of a file in a frame.
-fn entry(file: &File) -> Vec<u8> {
+// The directory entry of the survey's file in a frame.
+fn entry() -> Vec<u8> {
     let mut information = vec![0x20];
-    information.extend(file.number.to_le_bytes());
+    information.extend(NUMBER.to_le_bytes());
     information.extend(0u32.to_le_bytes());
-    information.extend((file.made + 7200).to_le_bytes());
-    information.extend((file.made + 7260).to_le_bytes());
-    information.extend(file.header());
+    information.extend((MADE + 7200).to_le_bytes());
+    information.extend((MADE + 7260).to_le_bytes());
+    information.extend(header());
     checked(0xBD, information)
 }
 
-impl File {
-    // Its header and its body.
-    fn bytes(&self) -> Vec<u8> {
-        [self.header(), self.body.clone()].concat()
-    }
+// The survey's file: its header and its body.
+fn file() -> Vec<u8> {
+    let mut file = header();
+    file.extend(body());
+    file
+}
 
-    // How many bytes the header has: AA 55, eleven items, item 12 where it is there, and the item that ends it.
-    fn header_size(&self) -> u16 {
-        if self.uploaded.is_some() {
-            80
-        } else {
-            73
-        }
-    }
+// How many bytes the header has: AA 55, twelve items, and the item that ends it.
+const HEADER: u16 = 80;
 
-    // The header, with its sum in item 0A.
-    fn header(&self) -> Vec<u8> {
-        let size = self.header_size();
-        let mut header = vec![0xAA, 0x55];
-        let mut item = |id: u8, data: &[u8]| {
-            header.extend([id, 0, data.len() as u8]);
-            header.extend(data);
-        };
-        item(0x01, &self.number.to_le_bytes());
-        item(0x02, self.name);
-        item(0x03, b"TXT");
-        item(0x04, &(u32::from(size) + self.body.len() as u32).to_le_bytes());
-        item(0x05, &self.made.to_le_bytes());
-        item(0x06, &self.made.to_le_bytes());
-        item(0x07, &[0]);
-        item(0x08, &[0]);
-        item(0x09, &sum(&self.body).to_le_bytes());
-        item(0x0A, &[0, 0]);
-        item(0x0B, &size.to_le_bytes());
-        if let Some(uploaded) = self.uploaded {
-            item(0x12, &uploaded.to_le_bytes());
-        }
-        item(0x00, &[]);
-        let place = 2 + 7 + 11 + 6 + 7 + 7 + 7 + 4 + 4 + 5 + 3;
-        let sum = sum(&header);
-        header[place..place + 2].copy_from_slice(&sum.to_le_bytes());
-        header
-    }
+// The header of the survey's file, with its sum in item 0A.
+fn header() -> Vec<u8> {
+    let body = body();
+    let mut header = vec![0xAA, 0x55];
+    let mut item = |id: u8, data: &[u8]| {
+        header.extend([id, 0, data.len() as u8]);
+        header.extend(data);
+    };
+    item(0x01, &NUMBER.to_le_bytes());
+    item(0x02, b"SURVEY  ");
+    item(0x03, b"TXT");
+    item(0x04, &(u32::from(HEADER) + body.len() as u32).to_le_bytes());
+    item(0x05, &MADE.to_le_bytes());
+    item(0x06, &MADE.to_le_bytes());
+    item(0x07, &[0]);
+    item(0x08, &[0]);
+    item(0x09, &sum(&body).to_le_bytes());
+    item(0x0A, &[0, 0]);
+    item(0x0B, &HEADER.to_le_bytes());
+    item(0x12, &(MADE + 7200).to_le_bytes());
+    item(0x00, &[]);
+    let place = 2 + 7 + 11 + 6 + 7 + 7 + 7 + 4 + 4 + 5 + 3;
+    let sum = sum(&header);
+    header[place..place + 2].copy_from_slice(&sum.to_le_bytes());
+    header
 }
 
 fn sum(bytes: &[u8]) -> u16 {
@@ -146,7 +115,7 @@ fn sum(bytes: &[u8]) -> u16 {
 }
 
 // The body of the survey's file: a text, and made-up readings of a lake's level.
-fn readings() -> Vec<u8> {
+fn body() -> Vec<u8> {
     let mut text = String::from(
         "Lake survey, autumn course. Gauge 3, east shore.\r\n\
          Level in millimetres over the gauge's zero, water in tenths of a degree.\r\n\

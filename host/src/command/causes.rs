@@ -119,7 +119,6 @@ fn differing(first: &Reception, second: &Reception) -> Option<String> {
 #[cfg(test)]
 mod tests {
     use super::*;
-    use thoweldeck::Edition;
 
     // A reception of a file with some bytes held from a position on.
     fn reception(number: u32, length: u32, from: usize, bytes: &[u8]) -> Reception {
@@ -206,7 +205,7 @@ mod tests {
             told,
             "reason 2: the destination is malformed: A9 at place 2 has its low bit set (and 1 more fault)"
         );
-        let short = Cause::of_frame(Kind::Entry(Edition::Old), &frame[..15], Reason::Short).to_string();
+        let short = Cause::of_frame(Kind::Entry, &frame[..15], Reason::Short).to_string();
         assert_eq!(short, "reason 1: the frame has 15 bytes, and 16 is the least");
         // where no fault is found, the reason has its own sentence
         assert_eq!(Cause::of_faults(Reason::Space, &[]), Cause::from(Reason::Space));

@@ -2,8 +2,7 @@
 use super::bytes::characters;
 use thoweldeck::{Header, Reception};
 
-/// The header of a reception's file, where it is held whole and keeps the rules of the old edition, which accepts what
-/// either does.
+/// The header of a reception's file, where it is held whole and keeps the rules.
 pub fn of(reception: &Reception) -> Option<Header> {
     let held = reception.holes().next().map_or(reception.length(), |hole| hole.start);
     Header::read(&reception.buffer()[..held as usize], reception.number()).ok()

@@ -44,28 +44,22 @@ const PARTS: [(&str, &str); 8] = [
         "explain",
         "\
 thoweldeck explain INPUT [--steps] [--as piece|entry|request|record] [--record RECORD]
-                         [--edition old|new]
     Explains the frames or the record in INPUT: each field with its place, its bytes and its meaning,
     the check worked out, and where it is refused the reason, its cause and the byte at fault. With
     --steps the check is worked out byte by byte. INPUT is taken for what it looks like, unless --as
     says otherwise. With --record it is shown where a piece goes in RECORD, or why it does not fit;
-    nothing is written. With --edition new the file header of a directory entry must have item 12, the
-    upload time. The default is the old edition, in which it may be missing: archives are full of such
-    headers, and what the new edition accepts means the same under the old.
+    nothing is written.
 ",
     ),
     (
         "take",
         "\
-thoweldeck take RECORD INPUT... [--number N] [--length L] [--edition old|new]
+thoweldeck take RECORD INPUT... [--number N] [--length L]
     Takes frames into RECORD, and says for each what happened. A frame that is refused changes nothing,
     and what cannot be read keeps the others from nothing. Where RECORD is not there yet it is made.
     Then number and length of the file are what the options say, or what the frames say: a directory
     entry, or the file header in the piece at offset 0. Frames of several files need --number, unless
-    the directory entries among them are of one. With --edition new these headers must have item 12, the
-    upload time. The default is the old edition, in which it may be missing: archives are full of such
-    headers, and what the new edition accepts means the same under the old. A piece is taken under
-    either.
+    the directory entries among them are of one.
 ",
     ),
     (

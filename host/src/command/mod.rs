@@ -1,7 +1,6 @@
 //! The parts of the command: each takes its words, says what it has to say line by line, and answers how it ended.
 mod bytes;
 mod causes;
-mod edition;
 mod explain;
 mod files;
 mod headers;
@@ -84,8 +83,8 @@ struct Part {
 }
 
 const PARTS: [Part; 8] = [
-    Part { name: "explain", run: explain::run, switches: &["--steps"], options: &["--as", "--record", "--edition"] },
-    Part { name: "take", run: take::run, switches: &[], options: &["--number", "--length", "--edition"] },
+    Part { name: "explain", run: explain::run, switches: &["--steps"], options: &["--as", "--record"] },
+    Part { name: "take", run: take::run, switches: &[], options: &["--number", "--length"] },
     Part { name: "join", run: join::run, switches: &[], options: &["-o"] },
     Part { name: "holes", run: holes::run, switches: &[], options: &[] },
     Part {

@@ -1,7 +1,6 @@
 //! The command `thoweldeck`, run as a user runs it: what it prints, its exit status, and what it leaves in files.
 mod bits;
 mod dumps;
-mod editions;
 mod escapes;
 mod explaining;
 mod explaining_records;

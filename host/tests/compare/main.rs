@@ -67,13 +67,11 @@ themes! {
     addresses         10    100_000 [
         order("piece", "accepted 2"),
         order("entry", "accepted 2"),
-        order("entry(new)", "2"),
         order("read_request", "accepted 2")
     ]
     free_bits      2_000     60_000 [
         order("piece", "accepted 2"),
         order("entry", "accepted 2"),
-        order("entry(new)", "accepted 2"),
         order("read_request", "accepted 2"),
         order("hole", "accepted 2"),
         order("take", "accepted 2"),
@@ -81,8 +79,6 @@ themes! {
         order("write_start", "accepted"),
         bits("piece"),
         bits("entry"),
-        bits("entry(new)"),
-        editions("entry"),
         bits("read_request"),
         bits("hole"),
         bits("take"),
@@ -90,15 +86,8 @@ themes! {
         bits("write_start")
     ]
     pieces         2_000    250_000 [PIECE, bits("piece"), REMAINDER]
-    entries        1_200    220_000 [
-        ENTRY,
-        ENTRY_NEW,
-        bits("entry"),
-        bits("entry(new)"),
-        editions("entry"),
-        uploads("entry")
-    ]
-    headers        1_200    130_000 [HEADER, HEADER_NEW, editions("header"), uploads("header")]
+    entries        2_000    200_000 [ENTRY, bits("entry")]
+    headers        2_000    110_000 [HEADER]
     requests_read  2_500    280_000 [READ_REQUEST, bits("read_request"), HOLE, bits("hole")]
     opens         10_000     40_000 [OPEN]
     takes          5_000    350_000 [TAKE, bits("take")]
@@ -117,19 +106,14 @@ themes! {
         order("load", "13"),
         order("write_fill", "7")
     ]
-    frames_read   10_000     60_000 [
+    frames_read   12_000     60_000 [
         order("Piece::read", "accepted 1 2 3 4 7 6 5"),
         order("Entry::read", "accepted 1 2 3 4 7 6 5 14 8"),
-        order("Entry::read_under(New)", "accepted 1 2 3 4 7 6 5 14 8"),
-        editions("Entry::read"),
         order("Header::read", "accepted 8"),
-        order("Header::read_under(New)", "accepted 8"),
-        editions("Header::read"),
         order("Request::read", "accepted 1 2 3 4 7 5 10"),
         order("Request::start", "accepted"),
         bits("Piece::read"),
         bits("Entry::read"),
-        bits("Entry::read_under(New)"),
         bits("Request::read"),
         bits("Request::start")
     ]

@@ -26,9 +26,7 @@ pub struct Order {
 
 pub const PIECE: Order = Order { operation: "piece", cases: "accepted 1 2 3 4 7 1' 6 5 7'" };
 pub const ENTRY: Order = Order { operation: "entry", cases: "accepted 1 2 3 4 7 1' 6 5 14 8" };
-pub const ENTRY_NEW: Order = order("entry(new)", ENTRY.cases);
 pub const HEADER: Order = Order { operation: "header", cases: "accepted 8" };
-pub const HEADER_NEW: Order = order("header(new)", HEADER.cases);
 pub const READ_REQUEST: Order = Order { operation: "read_request", cases: "accepted 1 2 3 4 7 1' 5 7' 10" };
 pub const HOLE: Order = Order { operation: "hole", cases: "accepted 1 2 3 4 7 1' 5 7' 10" };
 pub const OPEN: Order = Order { operation: "open", cases: "accepted 7 12 12'" };
@@ -51,16 +49,6 @@ pub const fn order(operation: &'static str, cases: &'static str) -> Order {
 /// Which addresses of a frame that an operation reads or writes have bit 7 of their SSID byte set: each answer is wanted.
 pub const fn bits(operation: &'static str) -> Order {
     Order { operation, cases: "neither destination source both" }
-}
-
-/// Whether the new edition answers otherwise than the old one, which accepts: each answer is wanted.
-pub const fn editions(operation: &'static str) -> Order {
-    Order { operation, cases: "same_by_edition differs_by_edition" }
-}
-
-/// What stands in the place of item 12 in a header that keeps every other rule: each is wanted.
-pub const fn uploads(operation: &'static str) -> Order {
-    Order { operation, cases: "absent once twice short long long_beside 1200 0112 1200_beside 0112_beside" }
 }
 
 const LEAST_ACCEPTED: u64 = 1_000;
@@ -86,16 +74,6 @@ impl Tally {
             (false, true) => "source",
             (true, true) => "both",
         };
-        self.note(operation, case);
-    }
-
-    /// Notes of two answers, of which the old edition's accepts, whether the new edition's differs.
-    pub fn note_editions(&mut self, operation: &'static str, differs: bool) {
-        self.note(operation, if differs { "differs_by_edition" } else { "same_by_edition" });
-    }
-
-    /// Notes something of an operation that is counted already.
-    pub fn note(&mut self, operation: &'static str, case: &'static str) {
         *self.notes.entry((operation, case)).or_insert(0) += 1;
     }
 
@@ -163,17 +141,4 @@ fn bits_that_are_never_set_are_noticed() {
     assert_eq!(tally.missing(bits("piece")), ["piece source: 0 times, not 50"]);
     assert_eq!(tally.missing(bits("entry")).len(), 4);
     assert_eq!(tally.operations(), 0, "a note is no operation");
-}
-
-#[test]
-fn editions_that_never_differ_are_noticed() {
-    let mut tally = Tally::default();
-    for _ in 0..LEAST_REFUSED {
-        tally.note_editions("entry", false);
-        tally.note("entry", "absent");
-    }
-    assert_eq!(tally.missing(editions("entry")), ["entry differs_by_edition: 0 times, not 50"]);
-    assert_eq!(tally.missing(uploads("entry")).len(), 9);
-    tally.note_editions("entry", true);
-    assert_eq!(tally.missing(editions("entry")), ["entry differs_by_edition: 1 times, not 50"]);
 }

@@ -14,7 +14,7 @@ use Rattle.frame.proofs.read_entry.Tie as tie
 headed : (c : tie.After-head) → head_length ≤ length c.before.before.before.before.args.frame.now
 headed c =
     let r = c.before.before in
-    long directory_protocol r.before.before.args.frame.now (entry_checks r.before.before.args.edition) entry_fields _ r.read_head.ensures _ c.head.given.1
+    long directory_protocol r.before.before.args.frame.now entry_checks entry_fields _ r.read_head.ensures _ c.head.given.1
 
 read-head-requires : tie.Need-read-head-requires
 read-head-requires c κs = search rules
@@ -42,14 +42,14 @@ unfolding read_entry
 returns c =
     let h = c.before.before.before in
     let r = h.before.before in
-    behind_head directory_protocol r.before.before.args.frame.now (entry_checks r.before.before.args.edition) entry_fields _ r.read_head.ensures _ h.head.given.1 _ c.read.ensures
+    behind_head directory_protocol r.before.before.args.frame.now entry_checks entry_fields _ r.read_head.ensures _ h.head.given.1 _ c.read.ensures
 
 returns-2 : tie.Need-returns-2
 unfolding read_entry
 returns-2 c =
     let n = c.before in
     let r = n.before.before in
-    refused_head directory_protocol r.before.before.args.frame.now (entry_checks r.before.before.args.edition) entry_fields _ r.read_head.ensures _ n.n.given.1
+    refused_head directory_protocol r.before.before.args.frame.now entry_checks entry_fields _ r.read_head.ensures _ n.n.given.1
 
 pub read-entry-spec : {M : Type 1} → statement M
 read-entry-spec =

@@ -3,24 +3,23 @@
 use mathlib.Core.Path.{◌≡◌, sym, ap, ap₂, ◌∙◌}
 use mathlib.Core.Bool.{Bool, true, false, ◌&&◌, true≢false}
 use mathlib.Core.List.{List, [], ◌∷◌}
-use Prim.Native.Nat.{ℕ, ◌%◌}
+use Prim.Native.Nat.{ℕ, ◌%◌, ◌≤◌, ◌<◌}
 use native.Mathlib.Omega.{arith}
 use lib.ListN.{take}
 use lib.Seq.{length-take-le}
 use borrow.Author.Rules.{rules}
-use borrow.Author.Tests.{not-true, not-false}
+use borrow.Author.Tests.{le-leb, not-true, not-false}
 use Rattle.reason.specs.Answer.{accepted, refused}
 use Rattle.octets.specs.Runs.{put_in}
-use Rattle.header.specs.declared.Edition.{Edition}
 use Rattle.header.specs.declared.Meaning.TheVariants.{HeaderSum, UploadTime}
 use Rattle.header.specs.declared.Header.{Header}
-use Rattle.header.specs.Items.{items, comes_to_end}
-use Rattle.header.specs.Header.{begins_right, mandatory, every_pair, once, sum_of, values_agree, values_by, header_of, all_once, allows_uploads, upload_right, values_right, keeps_rules, read_header}
+use Rattle.header.specs.Items.{items, count_of, comes_to_end}
+use Rattle.header.specs.Header.{begins_right, mandatory, every_pair, once, sum_of, values_agree, values_by, header_of, all_once, upload_right, values_right, keeps_rules, read_header}
 use Rattle.header.specs.Rules.{Rules}
 use Rattle.header.specs.Notes.{note_of, by_id, Noted}
 use Rattle.header.proofs.NoteLaws.{once_by_notes, values_by_notes, uploads_by_notes, sum_by_notes, names_in_header, sum_in_header}
 use Rattle.header.proofs.HeaderLaws.{reads_header}
-use Rattle.header.proofs.RulesKept.{uploads_kept, begins_kept, once_kept, values_kept, refuses_if}
+use Rattle.header.proofs.RulesKept.{begins_kept, once_kept, values_kept, refuses_if}
 use Rattle.header.proofs.read_header.Statement.{statement}
 use Rattle.header.proofs.read_header.Tie as tie
 
@@ -28,29 +27,24 @@ use Rattle.header.proofs.read_header.Tie as tie
 all_5 : (a b c d e : Bool) → a ≡ true → b ≡ true → c ≡ true → d ≡ true → e ≡ true → (a && b && c && d && e) ≡ true
 all_5 a b c d e p q r s t = rw (p, q, r, s, t)
 
-module _ (edition : Edition) (s : List ℕ) (number : ℕ) where
+module _ (s : List ℕ) (number : ℕ) where
   -- a test that the rules would pass and that fails
-  fails : (b : Bool) → (Rules edition s number → b ≡ true) → b ≡ false → refused 8 ≡ read_header edition s number
-  fails b k h = sym (refuses_if edition s number (λ r. true≢false (sym (k r) ∙ h)))
+  fails : (b : Bool) → (Rules s number → b ≡ true) → b ≡ false → refused 8 ≡ read_header s number
+  fails b k h = sym (refuses_if s number (λ r. true≢false (sym (k r) ∙ h)))
 
-  not_begun : begins_right s ≡ false → refused 8 ≡ read_header edition s number
-  not_begun = fails (begins_right s) (begins_kept edition s number)
+  not_begun : begins_right s ≡ false → refused 8 ≡ read_header s number
+  not_begun = fails (begins_right s) (begins_kept s number)
 
-  not_ended : comes_to_end (items s) ≡ false → refused 8 ≡ read_header edition s number
+  not_ended : comes_to_end (items s) ≡ false → refused 8 ≡ read_header s number
   not_ended = fails (comes_to_end (items s)) (λ r. r.ends)
 
   -- by the notes
   module _ (end : ℕ) (counts sizes starts : List ℕ) (noted : Noted s end counts sizes starts) where
-    not_once : every_pair (once (by_id counts) (by_id sizes)) mandatory ≡ false → refused 8 ≡ read_header edition s number
-    not_once h = fails (all_once s) (once_kept edition s number) (sym (once_by_notes s end counts sizes starts noted) ∙ h)
+    not_once : every_pair (once (by_id counts) (by_id sizes)) mandatory ≡ false → refused 8 ≡ read_header s number
+    not_once h = fails (all_once s) (once_kept s number) (sym (once_by_notes s end counts sizes starts noted) ∙ h)
 
-    -- what was answered of the number of items 12 that were noted is the rule's test
-    uploads_right : (n : ℕ) → n ≡ note_of counts UploadTime → (b : Bool) → b ≡ allows_uploads edition n → upload_right edition s ≡ b
-    uploads_right n e b d = ap (allows_uploads edition) (sym (e ∙ uploads_by_notes s end counts sizes starts noted)) ∙ sym d
-
-    not_uploaded : (n : ℕ) → n ≡ note_of counts UploadTime → (b : Bool) → b ≡ allows_uploads edition n → b ≡ false
-        → refused 8 ≡ read_header edition s number
-    not_uploaded n e b d h = fails (upload_right edition s) (λ r. uploads_kept edition _ r.upload) (uploads_right n e b d ∙ h)
+    twice : (n : ℕ) → n ≡ note_of counts UploadTime → 1 < n → refused 8 ≡ read_header s number
+    twice n e h = sym (refuses_if s number (λ r. omega (arith, uploads_by_notes s end counts sizes starts noted, r.upload)))
 
     -- what `agree` answered of the values and the sum
     module _ (h : Header) (at sum : ℕ) (valued : h ≡ values_by (by_id counts) (by_id starts) end s) (placed : at ≡ note_of starts HeaderSum)
@@ -62,19 +56,19 @@ module _ (edition : Edition) (s : List ℕ) (number : ℕ) where
       agrees =
           ap₂ (λ (x : Header) (y : ℕ). values_agree x y number) (sym is) (sym (summed ∙ sum_by_notes s end counts sizes starts noted at placed)) ∙ sym agreed
 
-      not_agreed : r ≡ false → refused 8 ≡ read_header edition s number
-      not_agreed e = fails (values_right s number) (values_kept edition s number) (agrees ∙ e)
+      not_agreed : r ≡ false → refused 8 ≡ read_header s number
+      not_agreed e = fails (values_right s number) (values_kept s number) (agrees ∙ e)
 
-      all_kept : begins_right s ≡ true → every_pair (once (by_id counts) (by_id sizes)) mandatory ≡ true → upload_right edition s ≡ true → r ≡ true
-          → accepted h ≡ read_header edition s number
+      all_kept : begins_right s ≡ true → every_pair (once (by_id counts) (by_id sizes)) mandatory ≡ true → note_of counts UploadTime ≤ 1 → r ≡ true
+          → accepted h ≡ read_header s number
       unfolding keeps_rules
       all_kept b o u a =
           let kept =
-          all_5 (begins_right s) (comes_to_end (items s)) (all_once s) (upload_right edition s) (values_right s number) b noted.ends
+          all_5 (begins_right s) (comes_to_end (items s)) (all_once s) (upload_right s) (values_right s number) b noted.ends
           (sym (once_by_notes s end counts sizes starts noted) ∙ o)
-          u
+          (le-leb (count_of (items s) 0x12) 1 (omega (arith, uploads_by_notes s end counts sizes starts noted)))
           (agrees ∙ a) in
-          ap accepted is ∙ sym (reads_header edition s number kept)
+          ap accepted is ∙ sym (reads_header s number kept)
 
 -- the function's entry, from past the walk
 abbrev W : tie.After-walk → tie.Start
@@ -89,7 +83,7 @@ listed c = not-false _ c.if2.false
 
 -- that place, from before the values, and past these from past the sum
 abbrev T : tie.After-starts2 → tie.Else2
-T c = c.before.before.before.before.before.before
+T c = c.before.before.before.before.before
 
 abbrev U : tie.After-sum-but → tie.After-values
 U c = c.before.before.before.before
@@ -98,7 +92,7 @@ begins-requires : tie.Need-begins-requires
 begins-requires c κs = search rules
 
 returns : tie.Need-returns
-returns c = let a = c.before.before.before.args in not_begun a.edition a.s.now a.number (sym c.before.begins.ensures ∙ not-true _ c.if1.true)
+returns c = let a = c.before.before.before.args in not_begun a.s.now a.number (sym c.before.begins.ensures ∙ not-true _ c.if1.true)
 
 walk-requires : tie.Need-walk-requires
 walk-requires c κs = search rules
@@ -113,7 +107,7 @@ returns-2 : tie.Need-returns-2
 returns-2 c =
     let w = c.before.before in
     let a = (W w).args in
-    not_ended a.edition a.s.now a.number (w.walk.ensures.broken c.enum_told.given.1)
+    not_ended a.s.now a.number (w.walk.ensures.broken c.enum_told.given.1)
 
 all-once-requires : tie.Need-all-once-requires
 all-once-requires c κs = search rules
@@ -123,22 +117,17 @@ returns-3 c =
     let e = c.before.before.before.before.before in
     let w = e.before.before in
     let a = (W w).args in
-    not_once a.edition a.s.now a.number _ _ _ _ (w.walk.ensures.ended _ e.end.given.1) (sym c.before.all_once.ensures ∙ not-true _ c.if2.true)
+    not_once a.s.now a.number _ _ _ _ (w.walk.ensures.ended _ e.end.given.1) (sym c.before.all_once.ensures ∙ not-true _ c.if2.true)
 
 noted-requires : tie.Need-noted-requires
 noted-requires c κs = search rules
 
-allows-uploads-requires : tie.Need-allows-uploads-requires
-allows-uploads-requires c κs = search rules
-
 returns-4 : tie.Need-returns-4
 returns-4 c =
-    let u = c.before in
-    let e = E u.before.before.before in
+    let e = E c.before.before.before in
     let w = e.before.before in
     let a = (W w).args in
-    not_uploaded a.edition a.s.now a.number _ _ _ _ (w.walk.ensures.ended _ e.end.given.1) _ u.before.noted.ensures _ u.allows-uploads.ensures
-    (not-true _ c.if3.true)
+    twice a.s.now a.number _ _ _ _ (w.walk.ensures.ended _ e.end.given.1) _ c.before.noted.ensures c.if3.true
 
 values-requires : tie.Need-values-requires
 values-requires c κs =
@@ -172,7 +161,7 @@ returns-5 c =
     let e = E (T v.before) in
     let w = e.before.before in
     let a = (W w).args in
-    not_agreed a.edition a.s.now a.number _ _ _ _ (w.walk.ensures.ended _ e.end.given.1) _ _ _ v.values.ensures b.before.noted2.ensures b.sum-but.ensures _
+    not_agreed a.s.now a.number _ _ _ _ (w.walk.ensures.ended _ e.end.given.1) _ _ _ v.values.ensures b.before.noted2.ensures b.sum-but.ensures _
     c.before.agree.ensures (not-true _ c.if4.true)
 
 returns-6 : tie.Need-returns-6
@@ -180,16 +169,13 @@ returns-6 c =
     let b = c.before.before in
     let v = U b in
     let f = v.before.before.before in
-    let u = f.before in
     let k = T v.before in
     let e = E k in
     let w = e.before.before in
     let a = (W w).args in
-    let n = w.walk.ensures.ended _ e.end.given.1 in
     let begun = sym w.before.before.before.before.before.begins.ensures ∙ not-false _ w.before.before.before.before.if1.left in
-    let uploads = uploads_right a.edition a.s.now a.number _ _ _ _ n _ u.before.noted.ensures _ u.allows-uploads.ensures in
-    all_kept a.edition a.s.now a.number _ _ _ _ n _ _ _ v.values.ensures b.before.noted2.ensures b.sum-but.ensures _
-    c.before.agree.ensures begun (sym k.before.all_once.ensures ∙ listed k) (uploads ∙ not-false _ f.if3.left) (not-false _ c.if4.false)
+    all_kept a.s.now a.number _ _ _ _ (w.walk.ensures.ended _ e.end.given.1) _ _ _ v.values.ensures b.before.noted2.ensures b.sum-but.ensures _
+    c.before.agree.ensures begun (sym k.before.all_once.ensures ∙ listed k) (omega (arith, f.if3.left, f.before.noted.ensures)) (not-false _ c.if4.false)
 
 pub read-header-spec : {M : Type 1} → statement M
 read-header-spec =
@@ -204,7 +190,6 @@ read-header-spec =
     all-once-requires
     returns-3
     noted-requires
-    allows-uploads-requires
     returns-4
     values-requires
     slice-aggregate-sum-but

@@ -9,7 +9,7 @@ use thoweldeck::{Asks, Entry, Piece, Reason, Reception, Request};
 pub fn said(kind: Kind, bytes: &[u8]) -> Result<String, Reason> {
     match kind {
         Kind::Piece => Piece::read(bytes).map(|piece| piece_said(&piece)),
-        Kind::Entry(edition) => Entry::read_under(bytes, edition).map(|entry| entry_said(&entry)),
+        Kind::Entry => Entry::read(bytes).map(|entry| entry_said(&entry)),
         Kind::Request => Request::read(bytes).map(|request| request_said(&request)),
         Kind::Record => Reception::load(bytes).map(|reception| summary(&reception)),
     }
@@ -22,14 +22,10 @@ fn piece_said(piece: &Piece<'_>) -> String {
     format!("{} of file {}, {positions}", counted(size, "byte"), piece.number)
 }
 
-// What a directory entry says, and that it has no item 12, where the old edition lets it be missing.
+// What a directory entry says.
 fn entry_said(entry: &Entry<'_>) -> String {
     let length = counted(entry.header.length as usize, "byte");
-    let older = match entry.header.upload {
-        None => "; it has no item 12, so the new edition refuses it (reason 8)",
-        Some(_) => "",
-    };
-    format!("file {}, `{}`, has {length}{older}", entry.number, headers::name(&entry.header))
+    format!("file {}, `{}`, has {length}", entry.number, headers::name(&entry.header))
 }
 
 // What a request says.

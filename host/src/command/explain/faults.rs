@@ -48,7 +48,7 @@ pub fn of(kind: Kind, bytes: &[u8], reason: Reason) -> Vec<Fault> {
         Reason::Flags => flags(kind, fields),
         Reason::Check => one(check(bytes, fields)),
         Reason::Size => one(size(kind, bytes.len(), fields)),
-        Reason::Header => one(header(kind, fields)),
+        Reason::Header => one(items::fault(fields)),
         Reason::Beyond => requests::holes(fields),
         Reason::Record => one(records::walked(&mut Walk::over(bytes))),
         Reason::NotWhole => not_whole(fields),
@@ -68,7 +68,7 @@ fn short(kind: Kind, length: usize) -> Fault {
     }
     let (has, name) = (counted(length - INFORMATION, "byte"), kind.name());
     let least = match kind {
-        Kind::Entry(_) => 19,
+        Kind::Entry => 19,
         Kind::Request => 7,
         _ => 11,
     };
@@ -92,7 +92,7 @@ fn control(fields: &[Field<'_>]) -> Option<Fault> {
 // Reason 4: the other protocol, or none of the two.
 fn protocol(kind: Kind, fields: &[Field<'_>]) -> Option<Fault> {
     let field = find(fields, Name::Protocol)?;
-    let wanted = if matches!(kind, Kind::Entry(_)) { 0xBD } else { 0xBB };
+    let wanted = if kind == Kind::Entry { 0xBD } else { 0xBB };
     let sentence = format!("the protocol is {:02X}, and {} has {wanted:02X}", field.bytes[0], kind.name());
     Some(Fault::at(field.place, format!("not {wanted:02X}")).told(sentence))
 }
@@ -105,7 +105,7 @@ fn flags(kind: Kind, fields: &[Field<'_>]) -> Vec<Fault> {
     };
     let is = format!("the flags are {flags:02X}");
     match kind {
-        Kind::Entry(_) => other_bits(flags)
+        Kind::Entry => other_bits(flags)
             .map(|bit| {
                 let sentence = format!("{is}: bit {bit} is set, and must be 0");
                 Fault::at(place, format!("bit {bit} is set")).told(sentence)
@@ -141,14 +141,6 @@ fn size(kind: Kind, length: usize, fields: &[Field<'_>]) -> Option<Fault> {
     match kind {
         Kind::Request => requests::size(fields),
         _ => Some(Fault::of(None, "the piece has no data")),
-    }
-}
-
-// Reason 8: of a directory entry, under its edition.
-fn header(kind: Kind, fields: &[Field<'_>]) -> Option<Fault> {
-    match kind {
-        Kind::Entry(edition) => items::fault(fields, edition),
-        Kind::Piece | Kind::Request | Kind::Record => None,
     }
 }
 

@@ -2,16 +2,14 @@
 //! things stand; whether a frame or a record is accepted is for the library.
 use super::{frames, records};
 use crate::command::bytes::counted;
-use crate::command::edition;
-use thoweldeck::Edition;
 
 /// What bytes are read as.
 #[derive(Clone, Copy, Debug, PartialEq, Eq)]
 pub enum Kind {
     /// A frame with a piece of a file.
     Piece,
-    /// A frame with a directory entry, whose file header is read under an edition.
-    Entry(Edition),
+    /// A frame with a directory entry.
+    Entry,
     /// A frame with a request for a file's start or for holes.
     Request,
     /// A record of a reception.
@@ -23,18 +21,10 @@ impl Kind {
     pub fn named(name: &str) -> Option<Kind> {
         match name {
             "piece" => Some(Kind::Piece),
-            "entry" => Some(Kind::Entry(Edition::default())),
+            "entry" => Some(Kind::Entry),
             "request" => Some(Kind::Request),
             "record" => Some(Kind::Record),
             _ => None,
-        }
-    }
-
-    /// The same kind under an edition, on which a directory entry alone depends.
-    pub fn under(self, edition: Edition) -> Kind {
-        match self {
-            Kind::Entry(_) => Kind::Entry(edition),
-            Kind::Piece | Kind::Request | Kind::Record => self,
         }
     }
 
@@ -42,17 +32,9 @@ impl Kind {
     pub fn name(self) -> &'static str {
         match self {
             Kind::Piece => "a file piece",
-            Kind::Entry(_) => "a directory entry",
+            Kind::Entry => "a directory entry",
             Kind::Request => "a request",
             Kind::Record => "a record",
-        }
-    }
-
-    /// The kind in words, with the edition where it is not the usual one.
-    pub fn full_name(self) -> String {
-        match self {
-            Kind::Entry(edition) => format!("{}{}", self.name(), edition::behind(edition)),
-            Kind::Piece | Kind::Request | Kind::Record => self.name().to_string(),
         }
     }
 }
@@ -142,7 +124,7 @@ pub fn of(kind: Kind, bytes: &[u8]) -> Vec<Field<'_>> {
     let mut walk = Walk::over(bytes);
     match kind {
         Kind::Piece => frames::piece(&mut walk),
-        Kind::Entry(_) => frames::entry(&mut walk),
+        Kind::Entry => frames::entry(&mut walk),
         Kind::Request => frames::request(&mut walk),
         // where it is at fault is asked for elsewhere
         Kind::Record => drop(records::walked(&mut walk)),

@@ -3,7 +3,6 @@ use super::faults::Fault;
 use super::fields::{Field, Name, Walk};
 use crate::command::bytes::{characters, counted, date, number};
 use crate::command::headers;
-use thoweldeck::Edition;
 
 /// Walks over the items of a file header.
 pub fn walked(walk: &mut Walk<'_>) {
@@ -61,19 +60,6 @@ fn fixed_length(id: u16) -> Option<usize> {
     }
 }
 
-// The id of item 12, the upload time.
-const UPLOAD: u16 = 0x12;
-
-// The items that a header has once at most: the mandatory ones and item 12.
-fn known() -> impl Iterator<Item = u16> {
-    (0x01..=0x0B).chain([UPLOAD])
-}
-
-// Those that it must have: item 12 in the new edition alone.
-fn mandatory(edition: Edition) -> impl Iterator<Item = u16> {
-    known().filter(move |id| *id != UPLOAD || edition.is_new())
-}
-
 // What an item means.
 fn meaning(id: u16, data: &[u8], sum: u16) -> String {
     if let Some(length) = fixed_length(id).filter(|length| *length != data.len()) {
@@ -118,15 +104,15 @@ fn items<'a>(fields: &[Field<'a>]) -> Vec<Item<'a>> {
     fields.iter().filter(is_item).map(item).collect()
 }
 
-/// The first rule of a file header that is broken under an edition, in the order in which a reader meets them.
-pub fn fault(fields: &[Field<'_>], edition: Edition) -> Option<Fault> {
+/// The first rule of a file header that is broken, in the order in which a reader meets them.
+pub fn fault(fields: &[Field<'_>]) -> Option<Fault> {
     let start = fields.iter().find(|field| field.name == Name::Header);
     if start.map_or(true, |field| field.bytes != [0xAA, 0x55]) {
         let fault = Fault::of(start.map(|field| field.place), "it does not start with AA 55");
         return Some(fault.told("the file header does not start with AA 55"));
     }
     let items = items(fields);
-    in_the_walk(&items).or_else(|| at_the_end(fields, &items)).or_else(|| of_counts(&items, edition)).or_else(|| {
+    in_the_walk(&items).or_else(|| at_the_end(fields, &items)).or_else(|| of_counts(&items)).or_else(|| {
         let number = fields.iter().find(|field| field.name == Name::Number).map(|field| number(field.bytes));
         of_values(&items, number?, &header_bytes(fields))
     })
@@ -168,16 +154,15 @@ fn at_the_end(fields: &[Field<'_>], items: &[Item<'_>]) -> Option<Fault> {
 }
 
 // A known item that is there twice, or a mandatory one that is missing.
-fn of_counts(items: &[Item<'_>], edition: Edition) -> Option<Fault> {
+fn of_counts(items: &[Item<'_>]) -> Option<Fault> {
     let all_of = |id: u16| items.iter().filter(move |item| item.id == id);
-    let twice = known().find_map(|id| all_of(id).nth(1));
+    let twice = (0x01..=0x0B).chain([0x12]).find_map(|id| all_of(id).nth(1));
     if let Some(Item { place, id, .. }) = twice {
         let sentence = format!("item {id:02X} of the file header is there twice");
         return Some(Fault::at(*place, "there are two of it").told(sentence));
     }
-    let missing = mandatory(edition).find(|id| all_of(*id).next().is_none())?;
-    let by_edition = if missing == UPLOAD { ", and the new edition asks for it" } else { "" };
-    let sentence = format!("item {missing:02X} of the file header is missing{by_edition}");
+    let missing = (0x01..=0x0B).find(|id| all_of(*id).next().is_none())?;
+    let sentence = format!("item {missing:02X} of the file header is missing");
     Some(Fault::of(None, format!("item {missing:02X} is missing")).told(sentence))
 }
 
@@ -225,20 +210,15 @@ mod tests {
         frame
     }
 
-    // Checks that the walk finds a fault exactly if the library refuses 8, under each edition; answers whether it does,
-    // under the old one and the new.
-    fn same(header: &[u8]) -> [bool; 2] {
+    // Checks that the walk finds a fault exactly if the library refuses 8; answers whether it does.
+    fn same(header: &[u8]) -> bool {
         let frame = entry(header);
-        Edition::ALL.map(|edition| {
-            let found = fault(&fields::of(Kind::Entry(edition), &frame), edition);
-            match Entry::read_under(&frame, edition) {
-                Ok(_) => assert!(found.is_none(), "{edition} {header:02X?}: {found:?}"),
-                Err(reason) => {
-                    assert!(reason == Reason::Header && found.is_some(), "{edition} {header:02X?}: {reason}")
-                }
-            }
-            found.is_some()
-        })
+        let found = fault(&fields::of(Kind::Entry, &frame));
+        match Entry::read(&frame) {
+            Ok(_) => assert!(found.is_none(), "{header:02X?}: {found:?}"),
+            Err(reason) => assert!(reason == Reason::Header && found.is_some(), "{header:02X?}: {reason}"),
+        }
+        found.is_some()
     }
 
     // The header with its sum made right again.
@@ -252,73 +232,27 @@ mod tests {
         header
     }
 
-    // The header of the survey's entry, which has item 12 as its last but the end.
-    fn whole() -> Vec<u8> {
+    #[test]
+    fn a_fault_is_found_exactly_if_the_library_refuses() {
         let sample = include_bytes!(concat!(env!("CARGO_MANIFEST_DIR"), "/samples/survey/entry.frame"));
-        let header = Entry::read(sample).expect("a sample").bytes.to_vec();
-        assert_eq!(header[70..73], [0x12, 0x00, 0x04]);
-        header
-    }
-
-    // The same header with other items in the place of item 12, and its sum made right.
-    fn with_items(items: &[u8]) -> Vec<u8> {
-        let whole = whole();
-        summed([&whole[..70], items, &whole[77..]].concat())
-    }
-
-    // Damages a header at every place. Answers how often neither edition refused, the new one alone did, and both did.
-    fn damaged_everywhere(whole: &[u8]) -> [u32; 3] {
-        let mut counts = [0, 0, 0];
+        let whole = Entry::read(sample).expect("a sample").bytes.to_vec();
+        assert!(!same(&whole));
+        let mut counts = [0, 0];
         for place in 0..whole.len() {
             // every bit of it turned over, every known id, and lengths
             for byte in (0..8).map(|bit| whole[place] ^ 1 << bit).chain(0..=0x13).chain([0x7F, 0x80, 0xFF]) {
-                let mut header = whole.to_vec();
+                let mut header = whole.clone();
                 header[place] = byte;
                 same(&header);
-                let [old, new] = same(&summed(header));
-                assert!(new || !old, "what the new edition accepts, the old one does");
-                counts[usize::from(old) + usize::from(new)] += 1;
+                counts[usize::from(same(&summed(header)))] += 1;
             }
-            assert_eq!([same(&whole[..place]), same(&summed(whole[..place].to_vec()))], [[true; 2]; 2]);
+            assert!(same(&whole[..place]) && same(&summed(whole[..place].to_vec())));
             // a byte more, and a byte less
             for byte in [0x00, 0x01, 0x0A, 0x12, 0xFF] {
                 same(&summed([&whole[..place], &[byte], &whole[place..]].concat()));
             }
             same(&summed([&whole[..place], &whole[place + 1..]].concat()));
         }
-        counts
-    }
-
-    #[test]
-    fn a_fault_is_found_exactly_if_the_library_refuses() {
-        let (whole, older) = (whole(), with_items(&[]));
-        assert_eq!((same(&whole), same(&older)), ([false, false], [false, true]));
-        let [neither, new, both] = damaged_everywhere(&whole);
-        assert!(neither > 300 && new > 0 && both > 300, "every answer is given: {neither} {new} {both}");
-        let [neither, new, both] = damaged_everywhere(&older);
-        assert!(neither == 0 && new > 300 && both > 300, "without item 12 the new edition accepts none: {neither}");
-    }
-
-    #[test]
-    fn item_12_is_counted_as_the_edition_says() {
-        let upload = [0x12, 0x00, 0x04, 1, 2, 3, 4];
-        let missing = Some("item 12 of the file header is missing, and the new edition asks for it");
-        let twice = Some("item 12 of the file header is there twice");
-        for (items, old, new) in [
-            (&[][..], None, missing),
-            (&upload, None, None),
-            (&[upload, upload].concat(), twice, twice),
-            // ids 1200 and 0112 are others
-            (&[0x00, 0x12, 0x04, 1, 2, 3, 4], None, missing),
-            (&[0x12, 0x01, 0x04, 1, 2, 3, 4], None, missing),
-        ] {
-            let header = with_items(items);
-            same(&header);
-            let frame = entry(&header);
-            for (edition, wanted) in Edition::ALL.into_iter().zip([old, new]) {
-                let found = fault(&fields::of(Kind::Entry(edition), &frame), edition);
-                assert_eq!(found.as_ref().map(|fault| fault.sentence.as_str()), wanted, "{edition} {items:02X?}");
-            }
-        }
+        assert!(counts[0] > 300 && counts[1] > 300, "both answers are given: {counts:?}");
     }
 }

@@ -4,15 +4,14 @@ use super::fields::Kind;
 use super::frames::{INFORMATION, MOST};
 use super::records;
 use crate::command::input::as_text;
-use thoweldeck::{remainder, Edition, Entry, Piece, Reception, Request};
+use thoweldeck::{remainder, Entry, Piece, Reception, Request};
 
-/// The kind that a frame is accepted as. No frame is accepted as two. An entry is read under the old edition, which accepts
-/// what either does.
+/// The kind that a frame is accepted as. No frame is accepted as two.
 pub fn accepted_as(frame: &[u8]) -> Option<Kind> {
     if Piece::read(frame).is_ok() {
         Some(Kind::Piece)
-    } else if Entry::read_under(frame, Edition::Old).is_ok() {
-        Some(Kind::Entry(Edition::Old))
+    } else if Entry::read(frame).is_ok() {
+        Some(Kind::Entry)
     } else if Request::read(frame).is_ok() {
         Some(Kind::Request)
     } else {
@@ -28,7 +27,7 @@ pub fn kind(bytes: &[u8]) -> Kind {
     } else if let Some(kind) = accepted_as(bytes) {
         kind
     } else if bytes.get(15) == Some(&0xBD) {
-        Kind::Entry(Edition::Old)
+        Kind::Entry
     } else if flags == 0x10 || flags == 0x11 {
         Kind::Request
     } else {
@@ -212,10 +211,12 @@ mod tests {
 
     #[test]
     fn a_frame_is_what_it_is_accepted_as() {
-        const OLD: Kind = Kind::Entry(Edition::Old);
-        assert_eq!((kind(PIECE), kind(ENTRY)), (Kind::Piece, OLD));
+        assert_eq!((kind(PIECE), kind(ENTRY)), (Kind::Piece, Kind::Entry));
         let request = Request::start("UOSAT5-11".parse().unwrap(), "VA3SFL-0".parse().unwrap(), 7);
         assert_eq!((kind(&request), kind(&request[..20])), (Kind::Request, Kind::Request));
-        assert_eq!((kind(&ENTRY[..20]), kind(b""), kind(&[0x01, 0x04, 0x00])), (OLD, Kind::Piece, Kind::Record));
+        assert_eq!(
+            (kind(&ENTRY[..20]), kind(b""), kind(&[0x01, 0x04, 0x00])),
+            (Kind::Entry, Kind::Piece, Kind::Record)
+        );
     }
 }

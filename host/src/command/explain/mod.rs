@@ -17,20 +17,17 @@ pub use faults::Fault;
 pub use fields::Kind;
 
 use super::causes::Cause;
-use super::edition;
 use super::files::Source;
 use super::input::{self, Frames};
 use super::names::escaped;
 use super::words::Words;
 use super::{bytes, holes, End, Ended, Failure, Out};
 use std::path::Path;
-use thoweldeck::{remainder, Edition, Piece, Reception};
+use thoweldeck::{remainder, Piece, Reception};
 
-// What is asked about an input: a kind that it is read as, the edition of a file header in it, the steps of the check, a
-// record to hold its pieces against.
+// What is asked about an input: a kind that it is read as, the steps of the check, a record to hold its pieces against.
 struct Asked {
     kind: Option<Kind>,
-    edition: Edition,
     steps: bool,
     record: Option<(Source, Reception)>,
 }
@@ -38,8 +35,7 @@ struct Asked {
 /// `thoweldeck explain`.
 pub fn run(words: Words, out: &mut Out<'_>) -> End {
     let [path] = words.exactly(["a frame"])?;
-    let (kind, edition) = (kind(&words)?, edition::named(&words)?);
-    let asked = Asked { kind, edition, steps: words.has("--steps"), record: record(&words, &path)? };
+    let asked = Asked { kind: kind(&words)?, steps: words.has("--steps"), record: record(&words, &path)? };
     let source = Source::of(&path);
     if source != Source::Standard && path.is_dir() {
         return Err(Failure::Trouble(format!("{source}: is a folder, and no frame: name a file in it")));
@@ -74,7 +70,7 @@ fn all(source: &Source, read: &Frames, asked: &Asked, out: &mut Out<'_>) -> End 
     let mut ended = Ended::Well;
     for (index, heard) in read.frames.iter().enumerate() {
         let name = heard.name(source);
-        let kind = asked.kind.unwrap_or_else(|| looks::kind(&heard.bytes)).under(asked.edition);
+        let kind = asked.kind.unwrap_or_else(|| looks::kind(&heard.bytes));
         if kind == Kind::Record && asked.record.is_some() {
             let line = format!("{name}: is read as a record, and `--record` is for a frame; `join` joins two records");
             return Err(Failure::Trouble(line));
@@ -83,7 +79,7 @@ fn all(source: &Source, read: &Frames, asked: &Asked, out: &mut Out<'_>) -> End 
             out.line("");
         }
         let size = bytes::counted(heard.bytes.len(), "byte");
-        out.line(format!("{name}: {size} {}, read as {}", read.form.name(), kind.full_name()));
+        out.line(format!("{name}: {size} {}, read as {}", read.form.name(), kind.name()));
         if let (None, Some(line)) = (asked.kind, looks::line(&heard.bytes)) {
             out.line(line);
         }
@@ -146,7 +142,7 @@ fn in_record(kind: Kind, frame: &[u8], reception: &Reception, out: &mut Out<'_>)
 // The check byte by byte: the remainder of all information up to each.
 fn steps(kind: Kind, frame: &[u8], out: &mut Out<'_>) {
     let information = match kind {
-        Kind::Piece | Kind::Entry(_) => frame.get(16..frame.len().saturating_sub(2)).unwrap_or(&[]),
+        Kind::Piece | Kind::Entry => frame.get(16..frame.len().saturating_sub(2)).unwrap_or(&[]),
         Kind::Request | Kind::Record => return,
     };
     out.line("\nplace  byte  remainder of the information up to here");
@@ -165,7 +161,6 @@ mod tests {
 
     const PIECE: &[u8] = include_bytes!(concat!(env!("CARGO_MANIFEST_DIR"), "/samples/survey/first/01.frame"));
     const ENTRY: &[u8] = include_bytes!(concat!(env!("CARGO_MANIFEST_DIR"), "/samples/survey/entry.frame"));
-    const OLDER: &[u8] = include_bytes!(concat!(env!("CARGO_MANIFEST_DIR"), "/samples/older/entry.frame"));
 
     // What is said about the frames of an input.
     fn text(frames: Vec<Heard>, asked: &Asked) -> (End, String) {
@@ -180,7 +175,7 @@ mod tests {
     #[test]
     fn several_frames_are_explained_one_after_the_other() {
         let heard = |bytes: &[u8], line: usize| Heard { bytes: bytes.to_vec(), line: Some(line) };
-        let asked = Asked { kind: None, edition: Edition::Old, steps: false, record: None };
+        let asked = Asked { kind: None, steps: false, record: None };
         let (end, text) = text(vec![heard(ENTRY, 1), heard(&PIECE[..20], 4)], &asked);
         assert_eq!(end.expect("it is explained"), Ended::Partly);
         assert!(
@@ -208,9 +203,9 @@ mod tests {
         let mut next = chance(1);
         let mut reception = Reception::open(1201, 2358).expect("a length");
         reception.take(PIECE).expect("a sample");
-        let bases = [ENTRY.to_vec(), OLDER.to_vec(), PIECE.to_vec(), reception.save(), Vec::new()];
+        let bases = [ENTRY.to_vec(), PIECE.to_vec(), reception.save(), Vec::new()];
         for round in 0..600 {
-            let mut bytes = bases[round % 5].clone();
+            let mut bytes = bases[round % 4].clone();
             for _ in 0..next() % 4 {
                 let place = next() % (bytes.len() + 1);
                 bytes.insert(place, next() as u8);
@@ -219,12 +214,11 @@ mod tests {
                 bytes.truncate(next() % (bytes.len() + 40));
             }
             bytes.extend((0..next() % 3 * 150).map(|place| place as u8 ^ next() as u8));
-            let edition = Edition::ALL[next() % 2];
-            let kinds = [None, Some(Kind::Piece), Some(Kind::Entry(edition)), Some(Kind::Request), Some(Kind::Record)];
-            let kind = kinds[next() % 5];
+            let kind =
+                [None, Some(Kind::Piece), Some(Kind::Entry), Some(Kind::Request), Some(Kind::Record)][next() % 5];
             let is_record = kind.unwrap_or_else(|| looks::kind(&bytes)) == Kind::Record;
             let record = Some((Source::Standard, reception.clone())).filter(|_| !is_record && round % 2 == 0);
-            let asked = Asked { kind, edition, steps: round % 7 == 0, record };
+            let asked = Asked { kind, steps: round % 7 == 0, record };
             let (end, text) = text(vec![Heard { bytes: bytes.clone(), line: None }], &asked);
             let accepted = text.contains("\naccepted: ");
             assert_eq!(end.expect("it is explained"), if accepted { Ended::Well } else { Ended::Partly });

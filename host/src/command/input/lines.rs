@@ -6,7 +6,7 @@ use super::dump;
 use super::pairs;
 use super::strange::{Strange, Unread, Why};
 use super::{text, Form, Frames, Heard};
-use thoweldeck::{Edition, Entry, Piece, Request};
+use thoweldeck::{Entry, Piece, Request};
 
 // The most bytes that a frame has: 16 and an information of 255.
 const LONGEST: usize = 271;
@@ -163,9 +163,9 @@ pub fn is_frame(frame: &[u8]) -> bool {
     is_checked(frame) || Request::read(frame).is_ok()
 }
 
-// Whether a frame is accepted by its check. The old edition accepts an entry that either does.
+// Whether a frame is accepted by its check.
 fn is_checked(frame: &[u8]) -> bool {
-    Piece::read(frame).is_ok() || Entry::read_under(frame, Edition::Old).is_ok()
+    Piece::read(frame).is_ok() || Entry::read(frame).is_ok()
 }
 
 #[cfg(test)]

@@ -1,16 +1,14 @@
 //! Which file a new record is of: by the words, or by what the frames say of it. Nothing is guessed: where the frames
 //! name several files or lengths, the words must decide.
-use crate::command::edition;
 use std::collections::BTreeSet;
 use std::fmt;
-use thoweldeck::{Edition, Entry, Header, Piece};
+use thoweldeck::{Entry, Header, Piece};
 
-/// What the words say about the file, and the edition that its headers are read under.
+/// What the words say about the file.
 #[derive(Clone, Copy, Debug, Default)]
 pub struct Wanted {
     pub number: Option<u32>,
     pub length: Option<u32>,
-    pub edition: Edition,
 }
 
 /// Why it is not decided which file a record is of.
@@ -20,9 +18,8 @@ pub enum Undecided {
     NoFile,
     /// The frames name several files, and no directory entry picks one.
     SeveralFiles(BTreeSet<u32>),
-    /// No frame says how long the file with a number is; the edition under which its first piece does not, where that is
-    /// among them.
-    NoLength(u32, Option<Edition>),
+    /// No frame says how long the file with a number is; whether its first piece is among them.
+    NoLength(u32, bool),
     /// The frames say several lengths of it.
     SeveralLengths(u32, BTreeSet<u32>),
 }
@@ -37,12 +34,11 @@ impl fmt::Display for Undecided {
             Undecided::SeveralFiles(numbers) => {
                 write!(f, "the frames are of several files ({}): say which by `--number`", either(numbers))
             }
-            Undecided::NoLength(number, Some(edition)) => write!(
+            Undecided::NoLength(number, true) => write!(
                 f,
-                "the file's length is not known: the first piece of file {number} has no whole file header that keeps the rules{}; give a frame with its directory entry, or `--length`",
-                edition::behind(*edition)
+                "the file's length is not known: the first piece of file {number} has no whole file header that keeps the rules; give a frame with its directory entry, or `--length`"
             ),
-            Undecided::NoLength(number, None) => write!(
+            Undecided::NoLength(number, false) => write!(
                 f,
                 "the file's length is not known: give a frame with the directory entry or the first piece of file {number}, or `--length`"
             ),
@@ -62,23 +58,22 @@ struct Told {
 }
 
 // What a frame says, if it is a directory entry or a piece. The header of a file stands at its start, so a piece at
-// offset 0 may have it whole; the library reads it. Both headers are read under the edition.
-fn told(frame: &[u8], edition: Edition) -> Option<Told> {
-    if let Ok(entry) = Entry::read_under(frame, edition) {
+// offset 0 may have it whole; the library reads it.
+fn told(frame: &[u8]) -> Option<Told> {
+    if let Ok(entry) = Entry::read(frame) {
         return Some(Told { number: entry.number, length: Some(entry.header.length), by_entry: true, is_first: false });
     }
     let piece = Piece::read(frame).ok()?;
     let is_first = piece.offset == 0;
-    let header =
-        Some(piece).filter(|_| is_first).and_then(|piece| Header::read_under(piece.bytes, piece.number, edition).ok());
+    let header = Some(piece).filter(|_| is_first).and_then(|piece| Header::read(piece.bytes, piece.number).ok());
     Some(Told { number: piece.number, length: header.map(|header| header.length), by_entry: false, is_first })
 }
 
 /// The number and the length of the file that a new record is of.
 pub fn file(wanted: Wanted, frames: &[&[u8]]) -> Result<(u32, u32), Undecided> {
-    let all: Vec<Told> = frames.iter().filter_map(|frame| told(frame, wanted.edition)).collect();
+    let all: Vec<Told> = frames.iter().filter_map(|frame| told(frame)).collect();
     let number = wanted.number.map_or_else(|| number(&all), Ok)?;
-    let length = wanted.length.map_or_else(|| length(&all, number, wanted.edition), Ok)?;
+    let length = wanted.length.map_or_else(|| length(&all, number), Ok)?;
     Ok((number, length))
 }
 
@@ -93,13 +88,13 @@ fn number(all: &[Told]) -> Result<u32, Undecided> {
     }
 }
 
-// The one length that the frames tell of a file, their headers read under the edition.
-fn length(all: &[Told], number: u32, edition: Edition) -> Result<u32, Undecided> {
+// The one length that the frames tell of a file.
+fn length(all: &[Told], number: u32) -> Result<u32, Undecided> {
     let of_it = || all.iter().filter(|told| told.number == number);
     let lengths: BTreeSet<u32> = of_it().filter_map(|told| told.length).collect();
     match (only(&lengths), lengths.is_empty()) {
         (Some(length), _) => Ok(length),
-        (None, true) => Err(Undecided::NoLength(number, Some(edition).filter(|_| of_it().any(|told| told.is_first)))),
+        (None, true) => Err(Undecided::NoLength(number, of_it().any(|told| told.is_first))),
         (None, false) => Err(Undecided::SeveralLengths(number, lengths)),
     }
 }

@@ -8,11 +8,11 @@ use super::explain::{looks, Kind};
 use super::files::Source;
 use super::names::shown;
 use super::words::Words;
-use super::{edition, files, input, End, Failure, Out};
+use super::{files, input, End, Failure, Out};
 use decide::Wanted;
 use std::path::{Path, PathBuf};
 use tally::{Came, Tally};
-use thoweldeck::{Edition, Entry, Piece, Reason, Reception, Request};
+use thoweldeck::{Entry, Piece, Reason, Reception, Request};
 
 pub fn run(words: Words, out: &mut Out<'_>) -> End {
     // whatever stands in the way, no frame is taken then, and the status says so
@@ -25,7 +25,6 @@ fn take(words: &Words, out: &mut Out<'_>) -> End {
     let wanted = Wanted {
         number: words.said("--number", "the number of a file")?,
         length: words.said("--length", "the length of a file")?,
-        edition: edition::named(words)?,
     };
     let heard = heard(&path, &names)?;
     let target = files::Target::lock(&path)?;
@@ -34,7 +33,7 @@ fn take(words: &Words, out: &mut Out<'_>) -> End {
     let before = reception.held();
     let mut tally = Tally::default();
     for one in &heard {
-        let (came, line) = one.taken(&mut reception, wanted.edition);
+        let (came, line) = one.taken(&mut reception);
         out.line(format!("{}: {line}", one.name));
         tally.add(came);
     }
@@ -105,14 +104,9 @@ fn opened(path: &Path, wanted: Wanted, heard: &[Named], out: &mut Out<'_>) -> Re
     let frames: Vec<&[u8]> = heard.iter().filter_map(|one| one.frame.as_deref().ok()).collect();
     let (number, length) = decide::file(wanted, &frames).map_err(|undecided| {
         for one in heard {
-            out.line(format!("{}: {}", one.name, one.left(wanted.edition)));
+            out.line(format!("{}: {}", one.name, one.left()));
         }
-        let old = Wanted { edition: Edition::Old, ..wanted };
-        let hint = match decide::file(old, &frames) {
-            Ok(_) => "; with `--edition old` the frames say it",
-            Err(_) => "",
-        };
-        Failure::Trouble(format!("{}: is new, and {undecided}{hint}", shown(path)))
+        Failure::Trouble(format!("{}: is new, and {undecided}", shown(path)))
     })?;
     let what = format!("{}: a new record of file {number}, {}", shown(path), counted(length as usize, "byte"));
     let reception =
@@ -122,14 +116,14 @@ fn opened(path: &Path, wanted: Wanted, heard: &[Named], out: &mut Out<'_>) -> Re
 }
 
 impl Named {
-    // Takes the frame in: what came of it, and a line on it. A piece is the same under either edition.
-    fn taken(&self, reception: &mut Reception, edition: Edition) -> (Came, String) {
+    // Takes the frame in: what came of it, and a line on it.
+    fn taken(&self, reception: &mut Reception) -> (Came, String) {
         let frame = match &self.frame {
             Err(line) => return (Came::Unread, line.clone()),
             Ok(frame) => frame,
         };
-        if let Some((came, line)) = other_than_piece(frame, edition) {
-            return (came, line + &differs(reception, frame, edition));
+        if let Some((came, line)) = other_than_piece(frame) {
+            return (came, line + &differs(reception, frame));
         }
         match reception.take(frame) {
             Ok(0) => (Came::Repeat, format!("{}, a repeat: nothing new", spot(frame))),
@@ -147,12 +141,12 @@ impl Named {
     }
 
     // A line on a frame that is not taken, since it is not known into which record.
-    fn left(&self, edition: Edition) -> String {
+    fn left(&self) -> String {
         let frame = match &self.frame {
             Err(line) => return line.clone(),
             Ok(frame) => frame,
         };
-        match (other_than_piece(frame, edition), Piece::read(frame)) {
+        match (other_than_piece(frame), Piece::read(frame)) {
             (Some((_, line)), _) => line,
             (None, Ok(piece)) => format!("a piece of file {}, not taken", piece.number),
             (None, Err(reason)) => looks::stray(frame)
@@ -161,29 +155,28 @@ impl Named {
     }
 }
 
-// What a frame says that is no piece: a directory entry, by its protocol, read under the edition, or a request, if it is
-// read as one. There is nothing of it to be taken.
-fn other_than_piece(frame: &[u8], edition: Edition) -> Option<(Came, String)> {
+// What a frame says that is no piece: a directory entry, by its protocol, or a request, if it is read as one. There is
+// nothing of it to be taken.
+fn other_than_piece(frame: &[u8]) -> Option<(Came, String)> {
     if let Ok(request) = Request::read(frame) {
         return Some((Came::Request, format!("a request for file {}, and no piece", request.number)));
     }
-    match Entry::read_under(frame, edition) {
+    match Entry::read(frame) {
         Ok(entry) => {
             let length = counted(entry.header.length as usize, "byte");
             Some((Came::Entry, format!("directory entry of file {}, {length}", entry.number)))
         }
-        // the protocol is the directory's, so what is wrong is wrong with the entry, or it is one of the old edition
+        // the protocol is the directory's, so what is wrong is wrong with the entry
         Err(reason) if frame.get(15) == Some(&0xBD) && Piece::read(frame) == Err(Reason::Protocol) => {
-            let came = if Entry::read_under(frame, Edition::Old).is_ok() { Came::Older } else { Came::refused(reason) };
-            Some((came, format!("refused, {}", Cause::of_frame(Kind::Entry(edition), frame, reason))))
+            Some((Came::refused(reason), format!("refused, {}", Cause::of_frame(Kind::Entry, frame, reason))))
         }
         Err(_) => None,
     }
 }
 
 // A word on an entry of the record's file that tells another length.
-fn differs(reception: &Reception, frame: &[u8], edition: Edition) -> String {
-    match Entry::read_under(frame, edition) {
+fn differs(reception: &Reception, frame: &[u8]) -> String {
+    match Entry::read(frame) {
         Ok(entry) if entry.number == reception.number() && entry.header.length != reception.length() => {
             format!(", and the record has {}", counted(reception.length() as usize, "byte"))
         }

@@ -19,8 +19,6 @@ pub enum Came {
     Damaged,
     /// A directory entry.
     Entry,
-    /// A directory entry that the new edition refuses and the old one accepts.
-    Older,
     /// A request.
     Request,
     /// Something that could not be read.
@@ -76,7 +74,6 @@ impl fmt::Display for Tally {
             (self.count(Came::Contradicts), "contradicting the record"),
             (self.count(Came::Damaged), "damaged"),
             (self.count(Came::Entry), "from the directory"),
-            (self.count(Came::Older), "from the directory under the old edition alone"),
             (self.count(Came::Request), "with requests"),
         ];
         write!(f, "{}", counted(self.all.len() - unread, "frame"))?;
@@ -108,8 +105,6 @@ mod tests {
         let usual = [Came::Damaged, Came::New, Came::Other, Came::New, Came::Entry, Came::Repeat, Came::Request];
         let line = "7 frames: 2 with something new, 1 repeated, 1 of other files, 1 damaged, 1 from the directory, 1 with requests";
         assert_eq!(told(&usual), (line.to_string(), Ended::Well));
-        let line = "2 frames: 1 damaged, 1 from the directory under the old edition alone";
-        assert_eq!(told(&[Came::Older, Came::Damaged]), (line.to_string(), Ended::Well));
         let line = "1 frame: 1 with something new; 2 that could not be read";
         assert_eq!(told(&[Came::Unread, Came::New, Came::Unread]), (line.to_string(), Ended::Partly));
         let line = "1 frame: 1 contradicting the record; 1 that could not be read";

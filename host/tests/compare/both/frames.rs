@@ -1,7 +1,7 @@
 //! Reading frames: pieces, entries with their headers, requests with their holes; and headers by themselves.
 use super::{Both, Compared, Outcome, Part};
 use crate::made::number_of;
-use crate::model::{self, Answer, Edition};
+use crate::model::{self, Answer};
 use crate::tally::case;
 use thoweldeck::boundary::{self, EntryTold, HeaderTold, PieceTold, RequestTold};
 
@@ -30,67 +30,34 @@ impl Both {
         Compared { answer: model }
     }
 
-    /// The entry with its header under both editions; the answer is the old one's, from which the new one's follows.
+    /// The entry with its header.
     pub fn entry(&mut self, frame: &[u8]) -> Compared<model::Entry> {
-        let [answer, _] = self.entry_by_edition(frame);
-        Compared { answer }
-    }
-
-    /// The same with both answers, the old edition's and the new one's.
-    pub fn entry_by_edition(&mut self, frame: &[u8]) -> [Answer<model::Entry>; 2] {
-        let old = self.entry_under(Edition::Old, "entry", frame);
-        let new = self.entry_under(Edition::New, "entry(new)", frame);
-        self.editions("entry", &[Part::Bytes("frame", frame)], [&old, &new], |entry| entry.header.upload);
-        [old, new]
-    }
-
-    fn entry_under(&mut self, edition: Edition, operation: &'static str, frame: &[u8]) -> Answer<model::Entry> {
         let before = (self.rubbish_entry(), self.rubbish_header());
         let (lent, mut told) = (frame.to_vec(), before);
-        let answer = boundary::entry(&lent, edition == Edition::New, &mut told.0, &mut told.1);
-        let model = model::entry(frame, edition);
+        let answer = boundary::entry(&lent, &mut told.0, &mut told.1);
+        let model = model::entry(frame);
         let library = Outcome::library(answer, told, vec![lent]);
         let expected = Outcome::model(&model.clone().map(entry_told), before, vec![frame.to_vec()]);
-        self.compare((operation, frame_case(&model, frame)), &[Part::Bytes("frame", frame)], &library, &expected);
+        self.compare(("entry", frame_case(&model, frame)), &[Part::Bytes("frame", frame)], &library, &expected);
         if let Ok(entry) = &model {
-            self.note_bits(operation, entry.destination, entry.source);
+            self.note_bits("entry", entry.destination, entry.source);
         }
-        model
+        Compared { answer: model }
     }
 
-    /// The header that bytes start with, and its own size, under both editions; the answer is the old one's, from which the
-    /// new one's follows.
+    /// The header that bytes start with, and its own size.
     pub fn header(&mut self, bytes: &[u8], number: u32) -> Compared<(model::Header, usize)> {
-        let [answer, _] = self.header_by_edition(bytes, number);
-        Compared { answer }
-    }
-
-    /// The same with both answers, the old edition's and the new one's.
-    pub fn header_by_edition(&mut self, bytes: &[u8], number: u32) -> [Answer<(model::Header, usize)>; 2] {
-        let old = self.header_under(Edition::Old, "header", bytes, number);
-        let new = self.header_under(Edition::New, "header(new)", bytes, number);
-        let input = [Part::Number("number", number.into()), Part::Bytes("bytes", bytes)];
-        self.editions("header", &input, [&old, &new], |(header, _)| header.upload);
-        [old, new]
-    }
-
-    fn header_under(
-        &mut self,
-        edition: Edition,
-        operation: &'static str,
-        bytes: &[u8],
-        number: u32,
-    ) -> Answer<(model::Header, usize)> {
         let before = (self.rubbish.draw() as usize, self.rubbish_header());
         let (lent, mut told) = (bytes.to_vec(), before);
-        let answer = boundary::header(&lent, number, edition == Edition::New, &mut told.0, &mut told.1);
-        let model = model::read_header(bytes, number, edition);
+        let answer = boundary::header(&lent, number, &mut told.0, &mut told.1);
+        let model = model::read_header(bytes, number);
         let library = Outcome::library(answer, told, vec![lent]);
         let told = model.clone().map(|(header, size)| (size, header_told(&header)));
         let expected = Outcome::model(&told, before, vec![bytes.to_vec()]);
         let input = [Part::Number("number", number.into()), Part::Bytes("bytes", bytes)];
-        self.compare((operation, case(expected.reason, 0)), &input, &library, &expected);
-        model
+        let case = case(expected.reason, 0);
+        self.compare(("header", case), &input, &library, &expected);
+        Compared { answer: model }
     }
 
     pub fn read_request(&mut self, frame: &[u8]) -> Compared<model::Request> {

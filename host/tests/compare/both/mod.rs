@@ -120,23 +120,6 @@ impl Both {
         self.tally.note_bits(operation, frame[6] >= 0x80, frame[13] >= 0x80);
     }
 
-    /// What the two editions have to do with each other: they answer alike, but where the old one accepts without item 12,
-    /// and there the new one answers 8. So what the new one accepts, the old one accepts with the same values.
-    pub fn editions<T: PartialEq>(
-        &mut self,
-        operation: &'static str,
-        input: &[Part],
-        [old, new]: [&Answer<T>; 2],
-        upload: impl Fn(&T) -> Option<u32>,
-    ) {
-        let is_without = old.as_ref().map_or(false, |told| upload(told).is_none());
-        let right = if is_without { *new == Err(8) } else { new == old };
-        self.claim(right, &format!("{operation}: the editions differ where item 12 is missing, and only there"), input);
-        if old.is_ok() {
-            self.tally.note_editions(operation, is_without);
-        }
-    }
-
     /// A law that the test states in its own words; it is no compared operation.
     pub fn claim(&self, holds: bool, law: &str, input: &[Part]) {
         if !holds {

@@ -53,60 +53,9 @@ pub const BROKEN: [Broken; 19] = [
     Broken::Empty,
 ];
 
-/// What a header has in the place of item 12, as ids and lengths, and whether the old and the new edition accept that.
-#[derive(Clone, Copy)]
-pub struct Upload {
-    pub name: &'static str,
-    items: &'static [(u16, usize)],
-    old: bool,
-    new: bool,
-}
-
-const fn upload(name: &'static str, items: &'static [(u16, usize)], old: bool, new: bool) -> Upload {
-    Upload { name, items, old, new }
-}
-
-impl Upload {
-    /// The reasons of the old edition and of the new one, where nothing else is wrong.
-    pub fn reasons(&self) -> [Option<u8>; 2] {
-        [self.old, self.new].map(|is_accepted| if is_accepted { None } else { Some(8) })
-    }
-}
-
-const ABSENT: Upload = upload("absent", &[], true, false);
-const ONCE: Upload = upload("once", &[(0x12, 4)], true, true);
-
-/// Item 12 absent, once, twice and of other lengths; and ids 1200 and 0112, which are those of other items.
-pub const UPLOADS: [Upload; 10] = [
-    ABSENT,
-    ONCE,
-    upload("twice", &[(0x12, 4), (0x12, 4)], false, false),
-    upload("short", &[(0x12, 3)], false, false),
-    upload("long", &[(0x12, 5)], false, false),
-    upload("long_beside", &[(0x12, 4), (0x12, 5)], false, false),
-    upload("1200", &[(0x1200, 4)], true, false),
-    upload("0112", &[(0x0112, 4)], true, false),
-    upload("1200_beside", &[(0x12, 4), (0x1200, 4)], true, true),
-    upload("0112_beside", &[(0x12, 4), (0x0112, 4)], true, true),
-];
-
-/// A header that keeps every rule but what this says of item 12.
-pub fn with_upload(random: &mut Random, number: u32, upload: &Upload) -> Vec<u8> {
-    let items = items(random, number, upload);
-    finished(random, items, &[])
-}
-
-/// A header that breaks these rules, and no other: under the old edition, and under the new one where it has item 12.
+/// A header that breaks these rules, and no other.
 pub fn with(random: &mut Random, number: u32, broken: &[Broken]) -> Vec<u8> {
-    // half of these have item 12
-    let right: Vec<Upload> = UPLOADS.into_iter().filter(|upload| upload.old).collect();
-    let upload = random.pick(&right);
-    let items = items(random, number, &upload);
-    finished(random, items, broken)
-}
-
-// A header of these items with its values settled, but for the rules that are broken.
-fn finished(random: &mut Random, mut items: Vec<Item>, broken: &[Broken]) -> Vec<u8> {
+    let mut items = items(random, number);
     for &rule in broken {
         break_items(random, &mut items, rule);
     }
@@ -120,11 +69,10 @@ fn finished(random: &mut Random, mut items: Vec<Item>, broken: &[Broken]) -> Vec
     bytes
 }
 
-/// A header of this length, at least 83, which keeps every rule, with item 12 or without: it is filled up with other items.
-/// Beyond 65,535 bytes there is none, since item 0B has two bytes, and that rule is broken.
+/// A header of this length, at least 76, which keeps every rule: it is filled up with other items. Beyond 65,535 bytes
+/// there is none, since item 0B has two bytes, and that rule is broken.
 pub fn of_length(random: &mut Random, number: u32, length: usize) -> Vec<u8> {
-    let upload = random.pick(&[ABSENT, ONCE]);
-    let mut items = known(random, &upload);
+    let mut items: Vec<Item> = MANDATORY.iter().map(|&(id, size)| (id, random.bytes(size))).collect();
     let mut left = length - put_together(&items).len();
     while left > 0 {
         // at least an empty item is left behind one that does not fill the rest
@@ -139,15 +87,12 @@ pub fn of_length(random: &mut Random, number: u32, length: usize) -> Vec<u8> {
     put_together(&items)
 }
 
-// The mandatory items in their order, and behind them what stands in the place of item 12.
-fn known(random: &mut Random, upload: &Upload) -> Vec<Item> {
-    MANDATORY.iter().chain(upload.items).map(|&(id, length)| (id, random.bytes(length))).collect()
-}
-
-// The same in any order, and often others among them.
-fn items(random: &mut Random, number: u32, upload: &Upload) -> Vec<Item> {
-    let mut items = known(random, upload);
+fn items(random: &mut Random, number: u32) -> Vec<Item> {
+    let mut items: Vec<Item> = MANDATORY.iter().map(|&(id, length)| (id, random.bytes(length))).collect();
     items[0].1 = number.to_le_bytes().to_vec();
+    if random.chance(50) {
+        items.push((0x12, random.bytes(4)));
+    }
     let mut space = if random.chance(50) { random.below(130) } else { 0 };
     while space >= 3 {
         let most = random.pick(&[1, 6, 60, 130]);

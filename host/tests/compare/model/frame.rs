@@ -3,7 +3,7 @@
 
 use super::address::{self, Role};
 use super::numbers::number;
-use super::{check, header, refuse_if, Address, Answer, Edition, Entry, Piece};
+use super::{check, header, refuse_if, Address, Answer, Entry, Piece};
 
 /// Two addresses, control and protocol.
 pub const BEGINNING: usize = 16;
@@ -73,8 +73,8 @@ fn has_bit(flags: u8, bit: u32) -> bool {
     u32::from(flags) / 2u32.pow(bit) % 2 == 1
 }
 
-/// Reads a directory entry, its file header under an edition.
-pub fn entry(frame: &[u8], edition: Edition) -> Answer<Entry> {
+/// Reads a directory entry.
+pub fn entry(frame: &[u8]) -> Answer<Entry> {
     // 1, 2, 3, 4, 7, 1: what all frames share.
     let parts = parts(frame, DIRECTORY, ENTRY_FIELDS + CHECK)?;
     let information = parts.information;
@@ -89,7 +89,7 @@ pub fn entry(frame: &[u8], edition: Edition) -> Answer<Entry> {
     // 8: file header breaks a rule; in a directory entry nothing follows it.
     let bytes = &information[ENTRY_FIELDS..information.len() - CHECK];
     let file_number = number(&information[1..5]);
-    let (header, size) = header::read(bytes, file_number, edition)?;
+    let (header, size) = header::read(bytes, file_number)?;
     refuse_if(size != bytes.len(), 8)?;
     Ok(Entry {
         destination: parts.destination,

@@ -1,8 +1,8 @@
 //! The file header: its items as a list, and each rule over that list
-//! (01, File header; 02, C-15).
+//! (01, File header).
 
 use super::numbers::{number, short_number};
-use super::{refuse_if, Answer, Edition, Header};
+use super::{refuse_if, Answer, Header};
 
 /// An item: its id, its data, and where its data start in the header.
 struct Item<'a> {
@@ -62,19 +62,10 @@ fn mandatory_items_once(items: &[Item]) -> bool {
     })
 }
 
-/// How often item 12 may be there: in the old edition not at all or once, in
-/// the new edition once.
-fn upload_counts(edition: Edition) -> &'static [usize] {
-    match edition {
-        Edition::Old => &[0, 1],
-        Edition::New => &[1],
-    }
-}
-
-/// Rule: item 12, 4 bytes, as often as the edition says.
-fn upload_as_often_as(items: &[Item], edition: Edition) -> bool {
+/// Rule: item 12, 4 bytes, at most once.
+fn upload_at_most_once(items: &[Item]) -> bool {
     let found = all_of(items, 0x12);
-    upload_counts(edition).contains(&found.len()) && found.iter().all(|item| item.data.len() == 4)
+    found.len() <= 1 && found.iter().all(|item| item.data.len() == 4)
 }
 
 /// The data of the first item of this id.
@@ -126,14 +117,14 @@ fn values(items: &[Item]) -> Option<Header> {
     })
 }
 
-/// Reads the file header these bytes begin with under an edition, and its own
-/// size. That nothing follows it is a rule of the directory entry.
-pub fn read(bytes: &[u8], file_number: u32, edition: Edition) -> Answer<(Header, usize)> {
+/// Reads the file header these bytes begin with, and its own size. That nothing
+/// follows it is a rule of the directory entry.
+pub fn read(bytes: &[u8], file_number: u32) -> Answer<(Header, usize)> {
     // 8: file header breaks a rule.
     let (items, size) = items(bytes).ok_or(8)?;
     let header = &bytes[..size];
     let right = mandatory_items_once(&items)
-        && upload_as_often_as(&items, edition)
+        && upload_at_most_once(&items)
         && sum_agrees(header, &items)
         && number_agrees(&items, file_number)
         && body_place_agrees(&items, size);

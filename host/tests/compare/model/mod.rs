@@ -40,15 +40,6 @@ pub struct Address {
     pub bit7: u8,
 }
 
-/// The edition that a file header is read under (02, C-15).
-#[derive(Clone, Copy, Debug, PartialEq, Eq)]
-pub enum Edition {
-    /// Item 12 may be missing.
-    Old,
-    /// Item 12 is mandatory.
-    New,
-}
-
 /// A file piece (01, Frame).
 #[derive(Clone, Debug, PartialEq, Eq)]
 pub struct Piece {

@@ -1,9 +1,8 @@
-//! Reading directory entries and their headers, under both editions: every rule kept and broken, all that can stand in the
-//! place of item 12, faults, and damaged ones.
+//! Reading directory entries and their headers: every rule kept and broken, faults, and damaged ones.
 use super::shared::Kind;
 use crate::both::{Both, Part};
 use crate::made::entry;
-use crate::made::header::{self, Broken, BROKEN, UPLOADS};
+use crate::made::header::{self, Broken, BROKEN};
 use crate::random::Random;
 use crate::{damage, faults};
 
@@ -20,7 +19,6 @@ pub fn round(both: &mut Both, random: &mut Random) {
         3 | 4 => KIND.every_pair(both, random),
         5 | 6 => every_rule(both, random),
         7 => every_header_byte(both, random),
-        8 => every_upload(both, random),
         _ => many(both, random),
     }
 }
@@ -55,17 +53,6 @@ fn every_rule(both: &mut Both, random: &mut Random) {
         }
         let second = random.pick(&BROKEN);
         both.entry(&entry::with(random, &[rule, second]).bytes());
-    }
-}
-
-// All that can stand in the place of item 12.
-fn every_upload(both: &mut Both, random: &mut Random) {
-    for upload in UPLOADS.iter().cycle().take(4 * UPLOADS.len()) {
-        let frame = entry::with_upload(random, upload).bytes();
-        let reasons = both.entry_by_edition(&frame).map(Result::err);
-        let law = format!("item 12 {} is answered so by both editions", upload.name);
-        both.claim(reasons == upload.reasons(), &law, &[Part::Bytes("frame", &frame)]);
-        both.tally.note("entry", upload.name);
     }
 }
 

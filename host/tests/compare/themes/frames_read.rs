@@ -2,10 +2,10 @@
 use super::{entries, headers, pieces, requests_read};
 use crate::both::{Both, Part};
 use crate::made::{address, address_of, file_number};
-use crate::model::{self, Answer};
+use crate::model;
 use crate::random::Random;
 use crate::tally::ACCEPTED;
-use thoweldeck::{Address, Asks, Edition, Entry, Header, Piece, Reason, Request};
+use thoweldeck::{Address, Asks, Entry, Header, Piece, Request};
 
 pub fn round(both: &mut Both, random: &mut Random) {
     piece(both, &pieces::one(random));
@@ -52,50 +52,24 @@ fn piece(both: &mut Both, frame: &[u8]) {
     both.alike("Piece::read", &[Part::Bytes("frame", frame)], library, model::piece(frame));
 }
 
-// An entry under both editions: `read` is the old one's.
 fn entry(both: &mut Both, frame: &[u8]) {
     let (input, read) = ([Part::Bytes("frame", frame)], Entry::read(frame));
-    both.claim(read == Entry::read_under(frame, Edition::Old), "an entry is read under the old edition", &input);
-    let old = model::entry(frame, model::Edition::Old);
-    entry_read(both, "Entry::read", frame, read, &old);
-    let new = model::entry(frame, model::Edition::New);
-    entry_read(both, "Entry::read_under(New)", frame, Entry::read_under(frame, Edition::New), &new);
-    both.editions("Entry::read", &input, [&old, &new], |entry| entry.header.upload);
-}
-
-fn entry_read(
-    both: &mut Both,
-    operation: &'static str,
-    frame: &[u8],
-    read: Result<Entry<'_>, Reason>,
-    model: &Answer<model::Entry>,
-) {
-    let input = [Part::Bytes("frame", frame)];
     let all = read.map_or(true, |entry| entry.header.size == entry.bytes.len());
     both.claim(all, "an entry's header has all its bytes", &input);
     let library = read.map(|entry| {
-        addresses(both, operation, frame, [entry.destination, entry.source]);
+        addresses(both, "Entry::read", frame, [entry.destination, entry.source]);
         let (start, size) = place_in(frame, entry.bytes);
         let Entry { flags, number, offset, old, new, .. } = entry;
         let (destination, source, header) = (plain(entry.destination), plain(entry.source), values(entry.header));
         model::Entry { destination, source, flags, number, offset, old, new, start, size, header }
     });
-    both.alike(operation, &input, library, model.clone());
+    both.alike("Entry::read", &input, library, model::entry(frame));
 }
 
-// A header under both editions: `read` is the old one's.
 fn header(both: &mut Both, (bytes, number): (Vec<u8>, u32)) {
+    let library = Header::read(&bytes, number).map(|header| (values(header), header.size));
     let input = [Part::Number("number", number.into()), Part::Bytes("bytes", &bytes)];
-    let read = Header::read(&bytes, number);
-    let under_old = Header::read_under(&bytes, number, Edition::Old);
-    both.claim(read == under_old, "a header is read under the old edition", &input);
-    let told = |header: Header| (values(header), header.size);
-    let old = model::read_header(&bytes, number, model::Edition::Old);
-    both.alike("Header::read", &input, read.map(told), old.clone());
-    let new = model::read_header(&bytes, number, model::Edition::New);
-    let under_new = Header::read_under(&bytes, number, Edition::New);
-    both.alike("Header::read_under(New)", &input, under_new.map(told), new.clone());
-    both.editions("Header::read", &input, [&old, &new], |(header, _)| header.upload);
+    both.alike("Header::read", &input, library, model::read_header(&bytes, number));
 }
 
 fn values(header: Header) -> model::Header {

@@ -1,9 +1,9 @@
-//! Reading the header that a file starts with, under both editions: a body behind it, every rule broken, all that can stand
-//! in the place of item 12, every cut, every byte changed, other files' numbers, and headers that are long.
+//! Reading the header that a file starts with: a body behind it, every rule broken, every cut, every byte changed,
+//! other files' numbers, and headers that are long.
 use crate::both::{Both, Part};
 use crate::damage;
 use crate::made::file_number;
-use crate::made::header::{self, Broken, BROKEN, UPLOADS};
+use crate::made::header::{self, Broken, BROKEN};
 use crate::random::Random;
 
 pub fn round(both: &mut Both, random: &mut Random) {
@@ -13,7 +13,6 @@ pub fn round(both: &mut Both, random: &mut Random) {
         2 | 3 => every_rule(both, random),
         4 => every_bit_of_the_number(both, random),
         5 => long(both, random),
-        6 => every_upload(both, random),
         _ => many(both, random),
     }
 }
@@ -58,19 +57,6 @@ fn every_rule(both: &mut Both, random: &mut Random) {
         let mut bytes = header::with(random, number, &[rule, second]);
         bytes.extend(body(random));
         both.header(&bytes, number);
-    }
-}
-
-// All that can stand in the place of item 12, with a body behind the header.
-fn every_upload(both: &mut Both, random: &mut Random) {
-    for upload in UPLOADS.iter().cycle().take(4 * UPLOADS.len()) {
-        let number = file_number(random);
-        let mut bytes = header::with_upload(random, number, upload);
-        bytes.extend(body(random));
-        let reasons = both.header_by_edition(&bytes, number).map(Result::err);
-        let law = format!("item 12 {} is answered so by both editions", upload.name);
-        both.claim(reasons == upload.reasons(), &law, &[Part::Bytes("bytes", &bytes)]);
-        both.tally.note("header", upload.name);
     }
 }
 

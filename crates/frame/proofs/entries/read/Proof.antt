@@ -16,7 +16,6 @@ use Rattle.reason.proofs.Bools.{and_both}
 use Rattle.octets.specs.Numbers.{byte_at, number_at}
 use Rattle.remainder.specs.Check.{check_right}
 use Rattle.ax25.specs.declared.Head.{Head}
-use Rattle.header.specs.declared.Edition.{Edition}
 use Rattle.header.specs.declared.Header.{Header}
 use Rattle.header.specs.declared.HeaderRead.{HeaderRead}
 use Rattle.header.specs.declared.HeaderRead.TheVariants as header
@@ -29,33 +28,33 @@ use Rattle.frame.proofs.entries.read.Statement.{statement}
 use Rattle.frame.proofs.entries.read.Tie as tie
 
 -- what reading the header part says: refused; of another length than the part; and all of the part
-module _ (edition : Edition) (s : List ℕ) (long : 19 ≤ length s) (number : ℕ) (named : number ≡ number_at 4 s 1) (r : HeaderRead) (read : header_answer r ≡ read_header edition (header_part s) number) where
+module _ (s : List ℕ) (long : 19 ≤ length s) (number : ℕ) (named : number ≡ number_at 4 s 1) (r : HeaderRead) (read : header_answer r ≡ read_header (header_part s) number) where
   part_long : length (header_part s) ≡ length s - 2 - 17
   part_long = length-take-le (length s - 2 - 17) (drop 17 s) (omega (arith, length-drop 17 s))
 
-  not_header : (n : ℕ) → r ≡ header.Refused n → header_right edition s ≡ false
+  not_header : (n : ℕ) → r ≡ header.Refused n → header_right s ≡ false
   not_header n told =
-      let k = (header_refused edition (header_part s) number n (sym read ∙ ap header_answer told)).0 in
-      ap (λ (b : Bool). b && eqb (header_length (header_part s)) (length (header_part s))) (ap (keeps_rules edition (header_part s)) (sym named) ∙ k)
+      let k = (header_refused (header_part s) number n (sym read ∙ ap header_answer told)).0 in
+      ap (λ (b : Bool). b && eqb (header_length (header_part s)) (length (header_part s))) (ap (keeps_rules (header_part s)) (sym named) ∙ k)
 
   module _ (h : Header) (told : r ≡ header.Accepted h) where
     is : h ≡ header_of (header_part s)
-    is = (header_accepted edition (header_part s) number h (sym read ∙ ap header_answer told)).1
+    is = (header_accepted (header_part s) number h (sym read ∙ ap header_answer told)).1
 
-    kept : keeps_rules edition (header_part s) (number_at 4 s 1) ≡ true
-    kept = ap (keeps_rules edition (header_part s)) (sym named) ∙ (header_accepted edition (header_part s) number h (sym read ∙ ap header_answer told)).0
+    kept : keeps_rules (header_part s) (number_at 4 s 1) ≡ true
+    kept = ap (keeps_rules (header_part s)) (sym named) ∙ (header_accepted (header_part s) number h (sym read ∙ ap header_answer told)).0
 
     sized : h.size ≡ header_length (header_part s)
     sized = ap (λ (x : Header). x.size) is ∙ told_size (header_part s)
 
-    followed : (h.size ≡ length s - 2 - 17 → ⊥) → header_right edition s ≡ false
+    followed : (h.size ≡ length s - 2 - 17 → ⊥) → header_right s ≡ false
     followed d =
-        ap (λ (b : Bool). keeps_rules edition (header_part s) (number_at 4 s 1) && b) (ne_eqb (header_length (header_part s)) (length (header_part s)) (λ e. d (sized ∙ e ∙ part_long)))
-        ∙ and-false (keeps_rules edition (header_part s) (number_at 4 s 1))
+        ap (λ (b : Bool). keeps_rules (header_part s) (number_at 4 s 1) && b) (ne_eqb (header_length (header_part s)) (length (header_part s)) (λ e. d (sized ∙ e ∙ part_long)))
+        ∙ and-false (keeps_rules (header_part s) (number_at 4 s 1))
 
-    alone : h.size ≡ length s - 2 - 17 → header_right edition s ≡ true
+    alone : h.size ≡ length s - 2 - 17 → header_right s ≡ true
     alone e =
-        and_both (keeps_rules edition (header_part s) (number_at 4 s 1)) (eqb (header_length (header_part s)) (length (header_part s))) kept
+        and_both (keeps_rules (header_part s) (number_at 4 s 1)) (eqb (header_length (header_part s)) (length (header_part s))) kept
         (eq-eqb (header_length (header_part s)) (length (header_part s)) (sym sized ∙ e ∙ sym part_long))
 
 fields : (head : Head) (s : List ℕ) (number offset old new : ℕ) (h : Header) → number ≡ number_at 4 s 1 → offset ≡ number_at 4 s 5
@@ -102,26 +101,23 @@ I r = J (K (F r))
 abbrev S : tie.After-read-header → List ℕ
 S r = (E (I r)).args.s.now
 
-abbrev D : tie.After-read-header → Edition
-D r = (E (I r)).args.edition
-
 named : (r : tie.After-read-header) → r.before.before.before.before.number42.result ≡ number_at 4 (S r) 1
 named r = r.before.before.before.before.number42.ensures
 
-decides_8 : {A : Type 0} (r : tie.After-read-header) (a : A) → header_right (D r) (S r) ≡ false → refused 8 ≡ first_of (entry_checks (D r) (S r)) a
-decides_8 r a h = sym (reads_8 (D r) (S r) a (long (I r)) (right (I r)) (flagged (K (F r))) (whole (F r)) h)
+decides_8 : {A : Type 0} (r : tie.After-read-header) (a : A) → header_right (S r) ≡ false → refused 8 ≡ first_of (entry_checks (S r)) a
+decides_8 r a h = sym (reads_8 (S r) a (long (I r)) (right (I r)) (flagged (K (F r))) (whole (F r)) h)
 
-decides : {A : Type 0} (r : tie.After-read-header) (a : A) → header_right (D r) (S r) ≡ true → accepted a ≡ first_of (entry_checks (D r) (S r)) a
-decides r a h = sym (reads_entry (D r) (S r) a (long (I r)) (right (I r)) (flagged (K (F r))) (whole (F r)) h)
+decides : {A : Type 0} (r : tie.After-read-header) (a : A) → header_right (S r) ≡ true → accepted a ≡ first_of (entry_checks (S r)) a
+decides r a h = sym (reads_entry (S r) a (long (I r)) (right (I r)) (flagged (K (F r))) (whole (F r)) h)
 
 returns : tie.Need-returns
-returns c = sym (reads_1 c.before.before.args.edition c.before.before.args.s.now _ c.if1.true)
+returns c = sym (reads_1 c.before.before.args.s.now _ c.if1.true)
 
 check-right-requires : tie.Need-check-right-requires
 check-right-requires c κs = search rules
 
 returns-2 : tie.Need-returns-2
-returns-2 c = let e = c.before.before.before.before in sym (reads_6 e.args.edition e.args.s.now _ c.before.before.if1.false (sym c.before.check-right.ensures ∙ not-true _ c.if2.true))
+returns-2 c = let e = c.before.before.before.before in sym (reads_6 e.args.s.now _ c.before.before.if1.false (sym c.before.check-right.ensures ∙ not-true _ c.if2.true))
 
 shared-slice-read-flags : tie.Need-shared-slice-read-flags
 shared-slice-read-flags c = search rules
@@ -130,7 +126,7 @@ flags-allowed-requires : tie.Need-flags-allowed-requires
 flags-allowed-requires c κs = search rules
 
 returns-3 : tie.Need-returns-3
-returns-3 c = let k = c.before.before.before in sym (reads_5 (E k).args.edition (E k).args.s.now _ (long k) (right k) (sym c.before.flags_allowed.ensures ∙ not-true _ c.if3.true))
+returns-3 c = let k = c.before.before.before in sym (reads_5 (E k).args.s.now _ (long k) (right k) (sym c.before.flags_allowed.ensures ∙ not-true _ c.if3.true))
 
 number4-requires : tie.Need-number4-requires
 number4-requires c κs = search rules
@@ -142,7 +138,7 @@ returns-4 : tie.Need-returns-4
 returns-4 c =
     let f = c.before.before.before in
     let k = J f in
-    sym (reads_14 (E k).args.edition (E k).args.s.now _ (long k) (right k) (flagged f) (sym (judged c.before) ∙ not-true _ c.if4.true))
+    sym (reads_14 (E k).args.s.now _ (long k) (right k) (flagged f) (sym (judged c.before) ∙ not-true _ c.if4.true))
 
 number4-requires-2 : tie.Need-number4-requires-2
 number4-requires-2 c κs = search rules
@@ -177,7 +173,7 @@ enum_told c = search rules
 returns-5 : tie.Need-returns-5
 returns-5 c =
     let r = c.before.before in
-    decides_8 r _ (not_header (D r) (S r) (long (I r)) _ (named r) _ r.read-header.ensures _ c.enum_told.given.1)
+    decides_8 r _ (not_header (S r) (long (I r)) _ (named r) _ r.read-header.ensures _ c.enum_told.given.1)
 
 sub-if5 : tie.Need-overflow-sub-if5
 sub-if5 c = omega (arith, long (I c.before.before.before))
@@ -186,18 +182,18 @@ returns-6 : tie.Need-returns-6
 returns-6 c =
     let h = c.before.before.before in
     let r = h.before.before in
-    decides_8 r _ (followed (D r) (S r) (long (I r)) _ (named r) _ r.read-header.ensures _ h.header.given.1 (λ e. omega (arith, e, c.if5.true)))
+    decides_8 r _ (followed (S r) (long (I r)) _ (named r) _ r.read-header.ensures _ h.header.given.1 (λ e. omega (arith, e, c.if5.true)))
 
 returns-7 : tie.Need-returns-7
 returns-7 c =
     let h = c.before.before.before in
     let r = h.before.before in
-    let part = is (D r) (S r) (long (I r)) _ (named r) _ r.read-header.ensures _ h.header.given.1 in
+    let part = is (S r) (long (I r)) _ (named r) _ r.read-header.ensures _ h.header.given.1 in
     let offset = (F r).before.before.number4.ensures in
     let old = r.before.before.before.number43.ensures in
     let new = r.before.before.number44.ensures in
     ap accepted (fields (E (I r)).args.head (S r) _ _ _ _ _ (named r) offset old new part)
-    ∙ decides r _ (alone (D r) (S r) (long (I r)) _ (named r) _ r.read-header.ensures _ h.header.given.1 c.if5.false)
+    ∙ decides r _ (alone (S r) (long (I r)) _ (named r) _ r.read-header.ensures _ h.header.given.1 c.if5.false)
 
 pub read_spec : {M : Type 1} → statement M
 read_spec =

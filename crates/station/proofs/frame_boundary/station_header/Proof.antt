@@ -1,24 +1,14 @@
 -- `station_header` meets its contract: by what `header::read_header` answers.
 -- Assumes nothing.
-use mathlib.Core.Path.{◌≡◌, refl, sym, ap, ◌∙◌}
+use mathlib.Core.Path.{refl, sym, ap, ◌∙◌}
 use borrow.Author.Rules.{rules}
-use Rattle.header.specs.declared.Edition.{Edition}
-use Rattle.header.specs.Header.{header_answer, read_header}
-use Rattle.station.specs.FrameExports.{edition_of}
+use Rattle.header.specs.Header.{header_answer}
 use Rattle.station.proofs.ExportLaws.{exported_accepted, exported_refused}
 use Rattle.station.proofs.frame_boundary.station_header.Statement.{statement}
 use Rattle.station.proofs.frame_boundary.station_header.Tie as tie
 
-edition-of-requires : tie.Need-edition-of-requires
-edition-of-requires c κs = search rules
-
 read-header-requires : tie.Need-read-header-requires
 read-header-requires c κs = search rules
-
--- what was read, under the edition that was asked for
-read : (c : tie.After-read-header) → let a = c.before.before.before.args in
-    header_answer c.read-header.result ≡ read_header (edition_of a.new-edition) a.bytes.now a.number
-read c = let a = c.before.before.before.args in c.read-header.ensures ∙ ap (λ (e : Edition). read_header e a.bytes.now a.number) c.before.edition-of.ensures
 
 enum-known-header : tie.Need-enum-known-header
 enum-known-header c = search rules
@@ -33,18 +23,17 @@ returns : tie.Need-returns
 returns c =
     let k = c.before.before.before in
     let h = k.header.given in
-    exported_accepted _ _ _ _ h.0.0 (sym (read k.before.before) ∙ ap header_answer h.1) (rw c.tell-values.ensures)
+    exported_accepted _ _ _ _ h.0.0 (sym k.before.before.read-header.ensures ∙ ap header_answer h.1) (rw c.tell-values.ensures)
 
 returns-2 : tie.Need-returns-2
 returns-2 c =
     let n = c.before.n.given in
-    exported_refused _ _ _ _ n.0.0 (sym (read c.before.before.before) ∙ ap header_answer n.1) refl
+    exported_refused _ _ _ _ n.0.0 (sym c.before.before.before.read-header.ensures ∙ ap header_answer n.1) refl
 
 pub station-header-spec : {M : Type 1} → statement M
 station-header-spec =
     tie.close
     (tie.spec
-    edition-of-requires
     read-header-requires
     enum-known-header
     tell-values-requires
