@@ -4,6 +4,8 @@
 // order. That each reason is given exactly when it is first is in `proofs/InOrder.antt`; that what is
 // written is read back, and what is accepted is what writing gives, in `proofs/RoundTrip.antt`. Laws
 // for callers are in `proofs/SpellingLaws.antt`, `proofs/HeadLaws.antt` and `proofs/WriteLaws.antt`.
+#![tactic(auto)]
+
 mod spelling;
 
 ghost use Rattle.std.specs.Prelude.{◌≡◌};

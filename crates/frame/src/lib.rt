@@ -6,6 +6,8 @@
 // as parts of the frame. The contracts cite `specs/Piece.antt` and `specs/Entry.antt`. That each reason
 // is given exactly when it is first is in `proofs/InOrder.antt`, and what an accepted frame says of its
 // bytes in `proofs/Says.antt`.
+#![tactic(auto)]
+
 mod entries;
 mod pieces;
 

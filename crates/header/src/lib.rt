@@ -6,6 +6,8 @@
 // `specs/Header.antt` and `specs/Data.antt`.
 // `specs/Rules.antt` says the rules as propositions, and `proofs/RulesKept.antt` that a header is
 // accepted exactly if it keeps them all.
+#![tactic(auto)]
+
 mod notes;
 mod values;
 

@@ -3,6 +3,8 @@
 // Listing answers a hole, or one numbered reason in the order that its comment gives, and changes nothing. Its
 // contract cites `specs/Listing.antt`; what a hole is stands in `specs/Holes.antt`, that every hole is listed
 // once in `proofs/HoleLaws.antt`.
+#![tactic(auto)]
+
 ghost use Rattle.std.specs.Prelude.{◌≡◌};
 ghost use Rattle.holes.specs.Holes.{hole_start};
 ghost use Rattle.holes.specs.Listing.{listing, listed_answer};

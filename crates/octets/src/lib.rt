@@ -5,6 +5,8 @@
 // run that does not fit is not written. Its contracts cite `specs/Numbers.antt` and
 // `specs/Runs.antt`; callers' proofs use the laws of `proofs/NumberLaws.antt` and
 // `proofs/RunLaws.antt`.
+#![tactic(auto)]
+
 mod run;
 
 ghost use Rattle.std.specs.Prelude.{◌≡◌, ◌<◌, ◌^◌};

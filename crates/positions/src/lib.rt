@@ -4,6 +4,8 @@
 // (do all pass a test, how many do, which is the first). Here positions are asked for, marked, counted and
 // looked for, one by one or by bytes of the map. Every function answers for every map and every position: beyond
 // the map none is held.
+#![tactic(auto)]
+
 mod counting;
 mod search;
 

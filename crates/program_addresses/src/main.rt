@@ -2,6 +2,8 @@
 // that are accepted: at each character of a source with a name of six, of two and of one character,
 // and at the SSID byte in both roles. An accepted address is written again, and a question mark stands behind a value whose
 // seven bytes do not come back.
+#![tactic(auto)]
+
 use ax25::{AddressRead, Role};
 use libc::STDOUT_FILENO;
 use program_tools::say;

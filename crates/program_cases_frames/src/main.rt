@@ -4,6 +4,8 @@
 //
 // The cases are the text on standard input, `stdin` beside `src/`: a line for each, with its name, the numbers
 // of the call and what is expected, which were written from the rules and not worked out by the library.
+#![tactic(auto)]
+
 mod frames;
 mod reading;
 mod requests;

@@ -4,6 +4,8 @@
 // out. Every frame is the sample of figure 3.2, or a piece of file 7, with the change that its line
 // names. The check bytes are made right again unless they are what is changed; a header's items are
 // made right again only where the header is longer.
+#![tactic(auto)]
+
 mod answers;
 mod bases;
 mod faults;

@@ -2,6 +2,8 @@
 // broken and kept, bytes behind the end item, and cuts; and prints the bytes of items. Every header is
 // that of figure 3.2 with the change that its line names. Items 0A and 0B are made right again unless
 // they are what is changed, or the header is cut.
+#![tactic(auto)]
+
 mod answers;
 mod data;
 mod figure;

@@ -4,6 +4,8 @@
 // What it prints is `report::report` of what it reads. That it is enough to read one byte more than the
 // largest record has is `cut_reports_the_same` of `report`, `proofs/WholeInput.antt`, and the promise of
 // `report_all` here.
+#![tactic(auto)]
+
 ghost use Rattle.std.specs.Prelude.{◌≡◌, List, ℕ, ◌≤◌, ◌<◌, length, take};
 ghost use Rattle.reception.specs.Reception.{longest};
 ghost use Rattle.record.specs.Record.{record_length};

@@ -1,4 +1,6 @@
 // The hole program, on no input at all.
+#![tactic(auto)]
+
 fn main() {
     program_holes::run();
 }

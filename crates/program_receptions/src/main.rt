@@ -2,6 +2,8 @@
 // pieces and joins with every pair of faults, joins of patterns, and holes. A line says what was lent and
 // asked, what was answered, and a sum of every lent byte that could change. Lent space is full of rubbish
 // before it is used.
+#![tactic(auto)]
+
 mod all_holes;
 mod answers;
 mod faults;

@@ -2,6 +2,8 @@
 // paper first, saved with every fault of the length and of the lent space; receptions of many lengths and
 // patterns, saved, loaded back and saved again; records with every fault loaded into lent space of five
 // sizes; and the maps that records hand out. Lent space is full of rubbish before it is used.
+#![tactic(auto)]
+
 mod answers;
 mod changes;
 mod loads;

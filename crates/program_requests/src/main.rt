@@ -4,6 +4,8 @@
 // and of the reader alone and in pairs; frames of every size and with every value of some bytes; holes that
 // keep and break the rules; and holes by their index. Every byte of a target is A5 before it is lent, and
 // the line of a fault ends in a sum of all of it.
+#![tactic(auto)]
+
 mod bases;
 mod damages;
 mod fills;

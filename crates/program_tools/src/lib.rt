@@ -4,6 +4,8 @@
 // written, so they promise nothing but to be safe and to end, for all arguments; what the programs write by them is
 // compared with their stored output. Every other function promises what it answers and what it leaves (`specs/Made.antt`,
 // `specs/Lines.antt`), also where it prints beside that, as `lines::next` and `lines::answered` do.
+#![tactic(auto)]
+
 pub mod cells;
 pub mod faults;
 pub mod lines;

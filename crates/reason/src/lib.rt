@@ -5,6 +5,8 @@
 // of any list of reasons and any value are in `proofs/OrderLaws.antt`, those of a lent slice in
 // `proofs/Writing.antt`; that a promise has one answer only is in `proofs/OnlyOne.antt`.
 
+#![tactic(auto)]
+
 // The answer of an operation that has nothing more to tell than that it was done.
 #[derive(Drop)]
 pub enum Outcome {

@@ -7,6 +7,8 @@
 // buffer never changes. The contracts cite `specs/Opening.antt`, `specs/Taking.antt`,
 // `specs/Joining.antt` and `specs/Held.antt`; what a piece and a join leave of a file is in
 // `proofs/Holding.antt` and `proofs/HoldingLaws.antt`.
+#![tactic(auto)]
+
 mod space;
 
 ghost use Rattle.std.specs.Prelude.{◌≡◌};

@@ -4,6 +4,8 @@
 // everything else is refused 13. `read_record` says what a record says and copies nothing. The contracts
 // cite `specs/Saving.antt`, `specs/Reading.antt` and `specs/Loading.antt`; that loading gives back what was
 // saved, and saving what was loaded, is in `proofs/RoundTrip.antt`.
+#![tactic(auto)]
+
 mod reading;
 mod writing;
 

@@ -5,6 +5,8 @@
 // Its contracts cite `specs/Remainder.antt`, where the remainder is taken bit by bit, and
 // `specs/Check.antt`; private functions promise each other what `specs/Inner.antt` and
 // `specs/Shifts.antt` have.
+#![tactic(auto)]
+
 ghost use Rattle.std.specs.Prelude.{◌≡◌, ◌+◌, ◌*◌, ◌^◌, ◌≤◌, ◌<◌, length};
 ghost use Rattle.remainder.specs.Remainder.{with_bits, bits_of, remainder_of};
 ghost use Rattle.remainder.specs.Check.{check_right};

@@ -2,6 +2,8 @@
 //
 // The text is in `specs/Text.antt`: a line with the file's number, its length and how many positions are
 // held, and a line for each hole; or `refused 13`.
+#![tactic(auto)]
+
 mod lines;
 mod number;
 

@@ -8,6 +8,8 @@
 // held, and each of these once, is in `proofs/Naming.antt`; that what is written is read back, and what is
 // accepted is what writing gives, in `proofs/RoundTrip.antt`, `proofs/SentLaws.antt` and
 // `proofs/WrittenAgain.antt`.
+#![tactic(auto)]
+
 mod gathering;
 mod reading;
 mod writing;

@@ -4,6 +4,8 @@
 // byte with nothing to do is passed over, one with all eight positions is done at once. Every function answers
 // for all that it is lent: where the positions do not lie inside the maps and buffers, those that compare answer
 // false, and those that write change nothing and answer 0. The contracts cite `specs/Offers.antt`.
+#![tactic(auto)]
+
 mod eights;
 mod joins;
 mod pieces;

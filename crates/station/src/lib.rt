@@ -55,6 +55,8 @@
 // `specs/Demand2.antt` and `specs/Demand3.antt`, and are proved in `proofs/` under the same names; the
 // orders stand as 01, the customer's rules, prints them in `specs/Orders.antt`, its worked cases in
 // `specs/Cases.antt`. That no second answer meets a promise is in `proofs/OnlyOne.antt` of each crate.
+#![tactic(auto)]
+
 mod addresses;
 pub mod boundary;
 pub mod frame_boundary;

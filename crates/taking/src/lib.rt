@@ -2,6 +2,8 @@
 //
 // A frame is read as a file piece, and its piece is taken into the reception of a file. The contract cites
 // `specs/Taking.antt`: the reasons of a frame come first, then those of its piece.
+#![tactic(auto)]
+
 ghost use Rattle.taking.specs.Taking.{TakesFrame};
 
 use frame::PieceRead;
