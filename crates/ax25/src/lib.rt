@@ -29,7 +29,7 @@ pub const DIRECTORY_PROTOCOL: u8 = 0xBD;
 
 // An address: a station's six characters, padded at the end with spaces, the number of its SSID, and bit 7 of the SSID byte,
 // 0 or 1, which is told and written as it is and decides nothing.
-#[derive(Drop)]
+#[derive(Clone, Copy)]
 pub struct Address {
     pub c0: u8,
     pub c1: u8,
@@ -42,28 +42,28 @@ pub struct Address {
 }
 
 // Which of a frame's two addresses it is: bit 0 of the SSID byte tells them apart.
-#[derive(Drop)]
+#[derive(Clone, Copy)]
 pub enum Role {
     Destination,
     Source,
 }
 
 // What reading an address finds: the address, or the number of the reason.
-#[derive(Drop)]
+#[derive(Clone, Copy)]
 pub enum AddressRead {
     Accepted(Address),
     Refused(u8),
 }
 
 // The head of a frame: to whom and from whom.
-#[derive(Drop)]
+#[derive(Clone, Copy)]
 pub struct Head {
     pub destination: Address,
     pub source: Address,
 }
 
 // What reading a frame's head finds: both addresses, or the number of the reason.
-#[derive(Drop)]
+#[derive(Clone, Copy)]
 pub enum HeadRead {
     Accepted(Head),
     Refused(u8),

@@ -31,7 +31,7 @@ const CHECK_LENGTH: usize = 2;
 
 // A file piece's fields: both addresses, the file's number and type, and the place of the piece's first
 // byte in the file.
-#[derive(Drop)]
+#[derive(Clone, Copy)]
 pub struct Piece {
     pub head: Head,
     pub number: u32,
@@ -40,7 +40,7 @@ pub struct Piece {
 }
 
 // What reading a file piece finds: its fields, or the number of the reason.
-#[derive(Drop)]
+#[derive(Clone, Copy)]
 pub enum PieceRead {
     Accepted(Piece),
     Refused(u8),
@@ -48,7 +48,7 @@ pub enum PieceRead {
 
 // A directory entry's fields: both addresses, flags, the file's number, offset, time old, time new, and
 // the values of the file's header.
-#[derive(Drop)]
+#[derive(Clone, Copy)]
 pub struct Entry {
     pub head: Head,
     pub flags: u8,
@@ -60,7 +60,7 @@ pub struct Entry {
 }
 
 // What reading a directory entry finds: its fields, or the number of the reason.
-#[derive(Drop)]
+#[derive(Clone, Copy)]
 pub enum EntryRead {
     Accepted(Entry),
     Refused(u8),

@@ -19,7 +19,7 @@ ghost use Rattle.header.specs.Data.{data_of};
 use notes::{PLACES, Walked};
 
 // What an item tells of its file, by its id.
-#[derive(Drop)]
+#[derive(Clone, Copy)]
 pub enum Meaning {
     End,
     FileNumber,
@@ -38,21 +38,21 @@ pub enum Meaning {
 }
 
 // How many bytes of data an item has, by its id.
-#[derive(Drop)]
+#[derive(Clone, Copy)]
 pub enum Size {
     Exactly(usize),
     Any,
 }
 
 // The decision over an item's id: its length and its meaning.
-#[derive(Drop)]
+#[derive(Clone, Copy)]
 pub struct Decision {
     pub meaning: Meaning,
     pub size: Size,
 }
 
 // An item of a header: its id and meaning, and where its data starts and how many bytes they are.
-#[derive(Drop)]
+#[derive(Clone, Copy)]
 pub struct Item {
     pub id: u16,
     pub meaning: Meaning,
@@ -61,14 +61,14 @@ pub struct Item {
 }
 
 // The place in a header where an item starts.
-#[derive(Drop)]
+#[derive(Clone, Copy)]
 pub struct Cursor {
     pub at: usize,
 }
 
 // What a step finds: an item, and the cursor behind it; the end item, and the cursor behind it; or
 // no whole item of a length that its id allows.
-#[derive(Drop)]
+#[derive(Clone, Copy)]
 pub enum Step {
     Found(Item, Cursor),
     Ended(Cursor),
@@ -76,14 +76,14 @@ pub enum Step {
 }
 
 // The id and the length of a mandatory item.
-#[derive(Drop)]
+#[derive(Clone, Copy)]
 pub struct Pair {
     pub id: u16,
     pub size: usize,
 }
 
 // Item 02, the eight bytes of the file's name in their order.
-#[derive(Drop)]
+#[derive(Clone, Copy)]
 pub struct Name {
     pub c0: u8,
     pub c1: u8,
@@ -96,7 +96,7 @@ pub struct Name {
 }
 
 // Item 03, the three bytes of the name's extension in their order.
-#[derive(Drop)]
+#[derive(Clone, Copy)]
 pub struct Extension {
     pub c0: u8,
     pub c1: u8,
@@ -104,7 +104,7 @@ pub struct Extension {
 }
 
 // Item 12, the upload time, where the header has it.
-#[derive(Drop)]
+#[derive(Clone, Copy)]
 pub enum Upload {
     Time(u32),
     Absent,
@@ -114,7 +114,7 @@ pub enum Upload {
 // extension, its length with its header, the times of its creation and last modification, whether an upset
 // was detected, its type, the sums of body and header, where the body starts, and the upload time; and
 // how many bytes the header itself has.
-#[derive(Drop)]
+#[derive(Clone, Copy)]
 pub struct Header {
     pub number: u32,
     pub name: Name,
@@ -132,7 +132,7 @@ pub struct Header {
 }
 
 // What reading a header finds: its values, or the number of the reason.
-#[derive(Drop)]
+#[derive(Clone, Copy)]
 pub enum HeaderRead {
     Accepted(Header),
     Refused(u8),

@@ -10,14 +10,14 @@ ghost use Rattle.holes.specs.Holes.{hole_start};
 ghost use Rattle.holes.specs.Listing.{listing, listed_answer};
 
 // A hole: its first position, and how many positions it has.
-#[derive(Drop)]
+#[derive(Clone, Copy)]
 pub struct Hole {
     pub start: u32,
     pub length: u32,
 }
 
 // What listing answers: a hole, or the number of the reason.
-#[derive(Drop)]
+#[derive(Clone, Copy)]
 pub enum Listed {
     Accepted(Hole),
     Refused(u8),

@@ -9,7 +9,7 @@ use libc::STDOUT_FILENO;
 use program_tools::say;
 
 // What became of seven bytes: they were refused; read and written they are the same; they differ.
-#[derive(Drop)]
+#[derive(Clone, Copy)]
 enum Trial {
     Refused,
     Same,

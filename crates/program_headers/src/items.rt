@@ -23,7 +23,7 @@ pub(crate) const ZEROS: u8 = 4;
 
 // The change of a header: the item that it falls on, the two parts that stand for it, and whether the items are in
 // reverse order.
-#[derive(Drop)]
+#[derive(Clone, Copy)]
 pub(crate) struct Change {
     pub(crate) item: usize,
     pub(crate) first: u8,

@@ -6,7 +6,7 @@ use program_tools::say;
 
 // The holes that were passed: the place behind them, the sums of their starts and of their ends, and the
 // reason at which there were no more, 0 as long as there are.
-#[derive(Drop)]
+#[derive(Clone, Copy)]
 struct Tally {
     place: u32,
     starts: u32,

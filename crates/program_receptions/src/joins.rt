@@ -8,7 +8,7 @@ use program_tools::{made, say};
 // A join to file 7: the length of the reception and of the other, the other's number, the length for
 // which both were made, their patterns, how their spare bits stand, and the bits that are turned over in
 // the byte at a position of the first.
-#[derive(Drop)]
+#[derive(Clone, Copy)]
 pub(crate) struct Join {
     pub(crate) length: u32,
     pub(crate) other: u32,

@@ -15,7 +15,7 @@ pub(crate) fn length(k: usize) -> u32 {
 }
 
 // How many bytes of a map and of a buffer are lent.
-#[derive(Drop)]
+#[derive(Clone, Copy)]
 pub(crate) struct Lent {
     pub(crate) map: usize,
     pub(crate) buffer: usize,

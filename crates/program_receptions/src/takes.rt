@@ -5,7 +5,7 @@ use reception::Added;
 
 // A piece for the reception of file 7: the reception's length, the piece's number, offset and size, and
 // the bits that are turned over in the byte at a place of it.
-#[derive(Drop)]
+#[derive(Clone, Copy)]
 pub(crate) struct Take {
     pub(crate) length: u32,
     pub(crate) number: u32,

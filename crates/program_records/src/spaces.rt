@@ -3,7 +3,7 @@
 use program_tools::made;
 
 // A reception: its number, its length, its pattern, and whether its spare bits are set.
-#[derive(Drop)]
+#[derive(Clone, Copy)]
 pub(crate) struct Held {
     pub(crate) number: u32,
     pub(crate) length: u32,
@@ -42,7 +42,7 @@ pub(crate) const TARGET: usize = 4;
 const UNHELD: usize = 5;
 
 // How many bytes of a map, of a buffer and of a target are lent.
-#[derive(Drop)]
+#[derive(Clone, Copy)]
 pub(crate) struct Lent {
     pub(crate) map: usize,
     pub(crate) buffer: usize,

@@ -8,7 +8,7 @@ use request::Filled;
 
 // A request for the holes of file 7: its faults, the length of the file, the bytes of its map, how many of
 // them are lent, the place, and how many bytes of the target are.
-#[derive(Drop)]
+#[derive(Clone, Copy)]
 pub(crate) struct Ask {
     pub(crate) faults: Faults,
     pub(crate) length: u32,
@@ -19,14 +19,14 @@ pub(crate) struct Ask {
 }
 
 // What came of a request for holes: the answer, and the bytes of the target and behind it.
-#[derive(Drop)]
+#[derive(Clone, Copy)]
 pub(crate) struct Asked {
     pub(crate) filled: Filled,
     pub(crate) bytes: [u8; 640],
 }
 
 // What came of a request for the start of a file: the same.
-#[derive(Drop)]
+#[derive(Clone, Copy)]
 pub(crate) struct Started {
     pub(crate) outcome: Outcome,
     pub(crate) bytes: [u8; 640],

@@ -8,7 +8,7 @@ const EVEN: u32 = 0x555555;
 
 // What was asked for so far: the place behind it, how many frames and holes, the sum of the frames' sums,
 // and the reason at which there were no more, 0 as long as there are.
-#[derive(Drop)]
+#[derive(Clone, Copy)]
 struct Tally {
     place: u32,
     frames: u32,

@@ -5,7 +5,7 @@ ghost use Rattle.program_tools.specs.Made.{is_among, chosen};
 use super::say;
 
 // Two faults by their numbers in the list, or one that stands twice.
-#[derive(Drop)]
+#[derive(Clone, Copy)]
 pub struct Faults {
     pub first: usize,
     pub second: usize,

@@ -18,7 +18,7 @@ pub const SPACE: usize = 32768;
 const NOWHERE: usize = 31;
 
 // How many cases there were, and how many differ.
-#[derive(Drop)]
+#[derive(Clone, Copy)]
 pub struct Tally {
     pub cases: u32,
     pub differ: u32,
@@ -26,7 +26,7 @@ pub struct Tally {
 
 // How far the lines are read: the numbers of the case and the usual ones, the cell of the number that is being read and
 // the number so far, whether the name is behind, whether a case is due to be run, and the tally.
-#[derive(Drop)]
+#[derive(Clone, Copy)]
 pub struct Reading {
     pub cells: [u32; 32],
     pub usual: [u32; 32],

@@ -5,7 +5,7 @@ ghost use Rattle.octets.specs.Numbers.{bytes_of};
 ghost use Rattle.program_tools.specs.Made.{cut_to, with_run, summed_with, sum_from, turned, and_one, changed_from, map_by, buffer_by, rubbish_at};
 
 // Bytes that are made: the first `size` of `bytes`, and what lies behind them.
-#[derive(Drop)]
+#[derive(Clone, Copy)]
 pub struct Bytes {
     pub bytes: [u8; 640],
     pub size: usize,

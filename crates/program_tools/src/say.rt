@@ -69,7 +69,7 @@ pub fn outcome(reason: u8) {
 }
 
 // How far a text of a list is printed: how many texts are left before it, and the numbers that are left.
-#[derive(Drop)]
+#[derive(Clone, Copy)]
 struct Left {
     texts: usize,
     a: u32,

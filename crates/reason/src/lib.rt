@@ -8,7 +8,7 @@
 #![tactic(auto)]
 
 // The answer of an operation that has nothing more to tell than that it was done.
-#[derive(Drop)]
+#[derive(Clone, Copy)]
 pub enum Outcome {
     Accepted,
     Refused(u8),

@@ -25,7 +25,7 @@ pub const LONGEST: u32 = 32768;
 
 // What taking a piece in or joining answers: the count of newly held positions, or the number of the
 // reason.
-#[derive(Drop)]
+#[derive(Clone, Copy)]
 pub enum Added {
     Accepted(u32),
     Refused(u8),

@@ -51,21 +51,21 @@ const MAP_AT: usize = MAP_FIELD + BEFORE_DATA;
 pub const LARGEST: usize = MAP_AT + (LONGEST as usize + 7) / 8 + BEFORE_DATA + LONGEST as usize;
 
 // What saving answers: the record's size, or the number of the reason.
-#[derive(Drop)]
+#[derive(Clone, Copy)]
 pub enum Saved {
     Accepted(usize),
     Refused(u8),
 }
 
 // What a record says: the number and the length of its file.
-#[derive(Drop)]
+#[derive(Clone, Copy)]
 pub struct Recorded {
     pub number: u32,
     pub length: u32,
 }
 
 // What reading or loading a record answers: what it says, or the number of the reason.
-#[derive(Drop)]
+#[derive(Clone, Copy)]
 pub enum RecordRead {
     Accepted(Recorded),
     Refused(u8),

@@ -22,7 +22,7 @@ const HOLE_LINE: usize = 12;
 pub const LONGEST_TEXT: usize = FIRST_LINE + HOLE_LINE / 2 * (LONGEST as usize + 1);
 
 // What `report` answers: how many bytes the text has, or the number of the reason.
-#[derive(Drop)]
+#[derive(Clone, Copy)]
 pub enum Reported {
     Accepted(usize),
     Refused(u8),

@@ -8,7 +8,7 @@ use holes::{Hole, Listed};
 
 // How many holes were listed, the end of the last, and the reason at which there were no more, 0 where 49
 // were listed.
-#[derive(Drop)]
+#[derive(Clone, Copy)]
 pub(crate) struct Gathered {
     pub count: u32,
     pub end: u32,

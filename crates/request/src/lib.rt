@@ -50,14 +50,14 @@ const BYTES_PER_HOLE: usize = 5;
 const ENTRIES: usize = MOST_HOLES as usize * BYTES_PER_HOLE;
 
 // What a request asks for: the start of a file, or the holes that it lists.
-#[derive(Drop)]
+#[derive(Clone, Copy)]
 pub enum Asks {
     Start,
     Holes,
 }
 
 // A request's fields: both addresses, what it asks for, the file's number, and how many holes it lists.
-#[derive(Drop)]
+#[derive(Clone, Copy)]
 pub struct Request {
     pub head: Head,
     pub asks: Asks,
@@ -66,21 +66,21 @@ pub struct Request {
 }
 
 // What reading a request finds: its fields, or the number of the reason.
-#[derive(Drop)]
+#[derive(Clone, Copy)]
 pub enum RequestRead {
     Accepted(Request),
     Refused(u8),
 }
 
 // What a written request lists: how many holes, and the end of the last, the first position behind it.
-#[derive(Drop)]
+#[derive(Clone, Copy)]
 pub struct Written {
     pub count: u32,
     pub end: u32,
 }
 
 // What writing a fill request answers: what it lists, or the number of the reason.
-#[derive(Drop)]
+#[derive(Clone, Copy)]
 pub enum Filled {
     Accepted(Written),
     Refused(u8),
