@@ -1,15 +1,16 @@
 // Printers: texts, numbers and bytes on standard output, and texts of a list with numbers in them.
-use libc::STDOUT_FILENO;
+// The number of standard output.
+pub const STDOUT: i32 = 1;
 
 // A text as it is.
 pub fn text(words: &[u8]) {
-    io::write_all(STDOUT_FILENO, words);
+    io::write_all(STDOUT, words);
 }
 
 // One letter.
 pub fn letter(b: u8) {
     let one = [b];
-    io::write_all(STDOUT_FILENO, &one);
+    io::write_all(STDOUT, &one);
 }
 
 // A space.
@@ -24,7 +25,7 @@ pub fn newline() {
 
 // A number in decimal.
 pub fn number(n: u64) {
-    io::print_decimal(STDOUT_FILENO, n);
+    io::print_decimal(STDOUT, n);
 }
 
 // A text and a number behind it.
