@@ -17,8 +17,7 @@ use reception::Added;
 use record::{RecordRead, Saved};
 
 // Opens a reception, as `reception::open`: 7, 12.
-#[unsafe(no_mangle)]
-pub extern "C" fn station_open(length: u32, map: &mut [u8], buffer: &mut [u8]) -> u8
+pub fn station_open(length: u32, map: &mut [u8], buffer: &mut [u8]) -> u8
     ensures { OpensOut length (record { map = map.entry.now; buffer = buffer.old }) result (record { map = map.exit.now; buffer = buffer.new }) }
 {
     let answered = reception::open(length, map, buffer);
@@ -27,8 +26,7 @@ pub extern "C" fn station_open(length: u32, map: &mut [u8], buffer: &mut [u8]) -
 
 // Takes a frame in, as `take`, and tells how many positions are newly held: the frame's reasons, then 7,
 // 12, 9, 10, 11.
-#[unsafe(no_mangle)]
-pub extern "C" fn station_take(
+pub fn station_take(
     number: u32,
     length: u32,
     map: &mut [u8],
@@ -45,8 +43,7 @@ pub extern "C" fn station_take(
 
 // Joins a second reception into a first, as `reception::join`, and tells how many positions are newly held:
 // 7, 12, 9, 11.
-#[unsafe(no_mangle)]
-pub extern "C" fn station_join(
+pub fn station_join(
     number: u32,
     length: u32,
     map: &mut [u8],
@@ -76,8 +73,7 @@ pub extern "C" fn station_join(
 }
 
 // Lists a hole, as `holes::list`, and tells its start and its length: 7, 12, 15.
-#[unsafe(no_mangle)]
-pub extern "C" fn station_list(
+pub fn station_list(
     length: u32,
     map: &[u8],
     place: u32,
@@ -98,8 +94,7 @@ pub extern "C" fn station_list(
 }
 
 // Saves a reception as a record, as `record::save`, and tells how many bytes it has: 7, 12.
-#[unsafe(no_mangle)]
-pub extern "C" fn station_save(
+pub fn station_save(
     number: u32,
     length: u32,
     map: &[u8],
@@ -120,8 +115,7 @@ pub extern "C" fn station_save(
 }
 
 // Loads a record, as `record::load`, and tells the number and the length of its file: 13, 12.
-#[unsafe(no_mangle)]
-pub extern "C" fn station_load(
+pub fn station_load(
     saved: &[u8],
     map: &mut [u8],
     buffer: &mut [u8],
@@ -143,24 +137,21 @@ pub extern "C" fn station_load(
 }
 
 // Whether a position of a file is held, as `reception::is_held`.
-#[unsafe(no_mangle)]
-pub extern "C" fn station_is_held(length: u32, map: &[u8], position: u32) -> bool
+pub fn station_is_held(length: u32, map: &[u8], position: u32) -> bool
     ensures { result ≡ held_of length map.now position }
 {
     reception::is_held(length, map, position)
 }
 
 // How many positions of a file are held, as `reception::count_held`.
-#[unsafe(no_mangle)]
-pub extern "C" fn station_count_held(length: u32, map: &[u8]) -> u32
+pub fn station_count_held(length: u32, map: &[u8]) -> u32
     ensures { result ≡ held_count length map.now }
 {
     reception::count_held(length, map)
 }
 
 // The remainder of all bytes, as `remainder::remainder`.
-#[unsafe(no_mangle)]
-pub extern "C" fn station_remainder(bytes: &[u8]) -> u16
+pub fn station_remainder(bytes: &[u8]) -> u16
     ensures { result ≡ remainder_of bytes.now }
 {
     remainder::remainder(bytes)

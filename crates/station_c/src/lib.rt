@@ -1,0 +1,7 @@
+// The station for a host program: the static library `libstation.a` has the functions below under these names. Each is a call of the
+// function of the same name in `station`, with the same promise.
+#![tactic(auto)]
+
+pub mod boundary;
+pub mod frame_boundary;
+pub mod request_boundary;
