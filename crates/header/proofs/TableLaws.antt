@@ -19,6 +19,7 @@ use Rattle.header.specs.Notes.{place_of, Placed}
 
 -- every pair passes a test exactly if each pair in the list does
 pub each : (test : Pair → Bool) (ps : List Pair) → every_pair test ps ≡ true → (p : Pair) → OneOf p ps → test p ≡ true
+each test [] e p m = absurd m
 each test (q ∷ ps) e p (inl s) = ap test s ∙ and_left (test q) (every_pair test ps) e
 each test (q ∷ ps) e p (inr m) = each test ps (and_right (test q) (every_pair test ps) e) p m
 
