@@ -1,7 +1,7 @@
 -- `runs::eights::agree_byte` meets its contract: all eight at once, or the positions so far agree.
 -- Assumes nothing.
-use Rattle.std.proofs.Common.{◌≡◌, ℕ, ◌-◌, ◌≤◌, ◌<◌, true, not, sym, ap, ◌∙◌, arith}
-use Rattle.positions.proofs.SpanLaws.{all_if, no_between, not_all_by, one_more_by}
+use Rattle.std.proofs.Common.{◌-◌, not, sym, ap, ◌∙◌, arith}
+use Rattle.positions.proofs.SpanLaws.{all_if, not_all_by, one_more_by}
 use Rattle.runs.specs.Inner.{bit_agrees}
 use Rattle.runs.proofs.EightLaws.{whole, none_asked, all_asked}
 use Rattle.runs.proofs.eights.agree_byte.Goals as goal

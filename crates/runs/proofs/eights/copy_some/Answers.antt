@@ -1,6 +1,6 @@
 -- `runs::eights::copy_some` meets its contract: the positions so far are copied where their bit is set.
 -- Assumes nothing.
-use Rattle.std.proofs.Common.{◌≡◌, ℕ, ◌-◌, ◌≤◌, subst, arith}
+use Rattle.std.proofs.Common.{◌≡◌, ℕ, ◌-◌, subst, arith}
 use Rattle.positions.specs.Map.{is_set}
 use Rattle.runs.specs.Inner.{BufferRun}
 use Rattle.runs.proofs.CopyLaws.{copy_none, copy_then}

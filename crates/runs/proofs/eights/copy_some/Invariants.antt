@@ -1,5 +1,5 @@
 -- The loop's invariant: the first `k` positions are copied where their bit is set.
-use Rattle.std.proofs.Common.{◌-◌, ◌≡◌, ℕ, ◌≤◌}
+use Rattle.std.proofs.Common.{◌-◌, ◌≤◌}
 use Rattle.positions.specs.Map.{is_set}
 use Rattle.runs.specs.Inner.{BufferRun}
 use Rattle.runs.proofs.eights.copy_some.Given as goal

@@ -1,6 +1,6 @@
 -- `runs::eights::same_eight` meets its contract: the bytes so far are the same, or not.
 -- Assumes nothing.
-use Rattle.std.proofs.Common.{◌≡◌, Bool, ◌&&◌, ◌+◌, ◌-◌, ◌≤◌, sym, ap, ◌∙◌, arith}
+use Rattle.std.proofs.Common.{◌≡◌, Bool, ◌&&◌, ◌+◌, sym, ap, ◌∙◌, arith}
 use Rattle.positions.specs.Spans.{every}
 use Rattle.runs.specs.Inner.{same_at}
 use Rattle.positions.proofs.SpanLaws.{every_none, every_more}

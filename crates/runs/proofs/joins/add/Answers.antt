@@ -1,9 +1,9 @@
 -- `runs::joins::add` meets its contract: the bytes so far are joined, and then the last positions.
 -- Assumes nothing.
-use Rattle.std.proofs.Common.{◌≡◌, ◌+◌, ◌-◌, ◌%◌, ◌≤◌, not, ◌&&◌, refl, arith}
+use Rattle.std.proofs.Common.{◌+◌, ◌-◌, not, ◌&&◌, refl, arith}
 use native.Mathlib.Nat.{zero-add}
 use Rattle.positions.specs.Map.{held}
-use Rattle.runs.specs.Inner.{MapRun, BufferRun}
+use Rattle.runs.specs.Inner.{MapRun}
 use Rattle.runs.proofs.MarkLaws.{run_none, run_most}
 use Rattle.runs.proofs.CopyLaws.{copy_none}
 use Rattle.runs.proofs.JoinSteps.{byte_told, byte_copied_told, runs_on, copies_on}
@@ -24,8 +24,8 @@ overflow_add-new c =
     let d = c.loop-p in
     let x = c.args in
     let joined : MapRun x.map.now (held x.second_map.now) 0 (d.p + 8) c.add_byte-new.new.map (d.new + c.add_byte-new.result) =
-        runs_on x.map.now x.second_map.now 0 d.p d.map d.new d.invariant.2 d.p 8 (d.p + 8) (zero-add d.p) refl _ _
-        (byte_told d.map x.second_map.now d.p d.invariant.1 _ _ c.add_byte-new.ensures.map_run) in
+    runs_on x.map.now x.second_map.now 0 d.p d.map d.new d.invariant.2 d.p 8 (d.p + 8) (zero-add d.p) refl _ _
+    (byte_told d.map x.second_map.now d.p d.invariant.1 _ _ c.add_byte-new.ensures.map_run) in
     let most = run_most x.map.now (held x.second_map.now) 0 (d.p + 8) _ _ joined in
     omega (arith, most)
 
@@ -48,7 +48,7 @@ overflow_add-result c =
     let d = c.loop-p in
     let x = c.args in
     let joined : MapRun x.map.now (held x.second_map.now) 0 x.n c.add_rest.new.map (d.new + c.add_rest.result) =
-        runs_on x.map.now x.second_map.now 0 d.p d.map d.new d.invariant.2 d.p (x.n - d.p) x.n (zero-add d.p) (omega arith) _ _ c.add_rest.ensures.map_run in
+    runs_on x.map.now x.second_map.now 0 d.p d.map d.new d.invariant.2 d.p (x.n - d.p) x.n (zero-add d.p) (omega arith) _ _ c.add_rest.ensures.map_run in
     let most = run_most x.map.now (held x.second_map.now) 0 x.n _ _ joined in
     omega (arith, most)
 

@@ -1,6 +1,5 @@
 -- `runs::joins::add_byte` meets its contract: what is new of one map byte.
 -- Assumes nothing.
-use Rattle.std.proofs.Common.{◌/◌, arith}
 use Rattle.octets.specs.Numbers.{AllBytes}
 use Rattle.runs.proofs.JoinSteps.{byte_nothing, byte_not_copied, byte_held, byte_copied}
 use Rattle.runs.proofs.joins.add_byte.Goals as goal

@@ -1,6 +1,6 @@
 -- `runs::joins::add_rest` meets its contract: the positions so far are joined.
 -- Assumes nothing.
-use Rattle.std.proofs.Common.{◌≡◌, List, ℕ, ◌+◌, ◌-◌, ◌≤◌, not, ◌&&◌, arith}
+use Rattle.std.proofs.Common.{◌≡◌, List, ℕ, ◌+◌, ◌-◌, not, ◌&&◌, arith}
 use Rattle.octets.specs.Numbers.{AllBytes}
 use Rattle.positions.specs.Map.{held}
 use Rattle.runs.specs.Inner.{MapRun, BufferRun}
@@ -27,7 +27,7 @@ overflow_add-new c =
     let d = c.loop-p in
     let x = c.args in
     let joined : MapRun x.map.now (held x.second_map.now) x.from (d.p + 1 - x.from) c.add_one-new.new.map (d.new + c.add_one-new.result) =
-        runs_on x.map.now x.second_map.now x.from (d.p - x.from) d.map d.new d.invariant.2 d.p 1 (d.p + 1 - x.from) (omega arith) (omega arith) _ _ c.add_one-new.ensures.map_run in
+    runs_on x.map.now x.second_map.now x.from (d.p - x.from) d.map d.new d.invariant.2 d.p 1 (d.p + 1 - x.from) (omega arith) (omega arith) _ _ c.add_one-new.ensures.map_run in
     let most = run_most x.map.now (held x.second_map.now) x.from _ _ _ joined in
     omega (arith, most)
 

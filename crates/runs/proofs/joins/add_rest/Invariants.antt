@@ -1,5 +1,5 @@
 -- The loop's invariant: the positions so far are joined.
-use Rattle.std.proofs.Common.{◌-◌, ℕ, ◌≤◌, not, ◌&&◌}
+use Rattle.std.proofs.Common.{◌-◌, ◌≤◌, not, ◌&&◌}
 use Rattle.positions.specs.Map.{held}
 use Rattle.runs.specs.Inner.{MapRun, BufferRun}
 use Rattle.runs.proofs.joins.add_rest.Given as goal

@@ -1,6 +1,6 @@
 -- `runs::joins::agree` meets its contract: the bytes so far agree, and the last positions decide.
 -- Assumes nothing.
-use Rattle.std.proofs.Common.{◌≡◌, ℕ, ◌+◌, ◌-◌, ◌%◌, ◌≤◌, ◌<◌, true, not, sym, ap, arith}
+use Rattle.std.proofs.Common.{◌+◌, not, sym, ap, arith}
 use Rattle.positions.proofs.SpanLaws.{all_if}
 use Rattle.runs.specs.Inner.{both_agree}
 use Rattle.runs.proofs.JoinSteps.{byte_fails, byte_passes, byte_decides}

@@ -1,6 +1,6 @@
 -- `runs::pieces::hold` meets its contract: the positions so far are held, and those that were not are counted.
 -- Assumes nothing.
-use Rattle.std.proofs.Common.{◌≡◌, List, ℕ, ◌+◌, ◌-◌, ◌≤◌, true, arith}
+use Rattle.std.proofs.Common.{◌≡◌, List, ℕ, ◌+◌, ◌-◌, true, arith}
 use Rattle.octets.specs.Numbers.{AllBytes}
 use Rattle.runs.specs.Inner.{span_at, MapRun}
 use Rattle.runs.proofs.MarkLaws.{run_none, run_most}
