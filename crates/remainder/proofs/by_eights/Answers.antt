@@ -1,6 +1,6 @@
 -- `remainder::by_eights` meets its contract.
 -- Assumes nothing.
-use Rattle.std.proofs.Common.{◌≡◌, ℕ, ◌+◌, ◌-◌, ◌%◌, length, drop, refl, sym, ap, ◌∙◌, arith}
+use Rattle.std.proofs.Common.{ℕ, ◌+◌, ◌%◌, length, drop, sym, ap, ◌∙◌, arith}
 use Rattle.octets.specs.Numbers.{AllBytes}
 use Rattle.remainder.specs.Remainder.{with_bits, message_bits, remainder_of}
 use Rattle.remainder.specs.Inner.{with_number}

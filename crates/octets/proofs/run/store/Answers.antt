@@ -1,7 +1,7 @@
 -- `octets::run::store` meets its contract.
 -- Assumes nothing.
-use Rattle.std.proofs.Common.{◌≡◌, ℕ, ◌≤◌, ◌<◌, ◌+◌, ◌-◌, List, length, get_or, set, length-set, refl, sym, ap, ◌∙◌, arith, rules, add-one}
-use Rattle.std.proofs.Math.Seq.{paste, paste-zero, paste-suc, take-length}
+use Rattle.std.proofs.Common.{◌≡◌, ℕ, ◌≤◌, ◌<◌, ◌+◌, List, length, get_or, set, length-set, sym, ap, ◌∙◌, arith, add-one}
+use Rattle.std.proofs.Math.Seq.{paste, paste-suc, take-length}
 use Rattle.octets.specs.Runs.{put_in}
 use Rattle.octets.proofs.run.store.Goals as goal
 

@@ -6,7 +6,7 @@ use mathlib.Core.List.{List}
 use Prim.Native.Nat.{ℕ, ◌+◌, ◌-◌, ◌/◌, ◌%◌, ◌^◌, ◌≤◌}
 use native.Mathlib.Omega.{arith}
 use lib.Dec.{eqb}
-use Rattle.octets.specs.Numbers.{byte_at, AllBytes}
+use Rattle.octets.specs.Numbers.{byte_at}
 use Rattle.positions.specs.Spans.{first}
 use Rattle.positions.proofs.SpanLaws.{first_from, first_by, no_between}
 use Rattle.positions.specs.Inner.{on_side, side_of, none_of}
