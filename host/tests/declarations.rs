@@ -44,8 +44,8 @@ fn passed((name, kind): (String, String)) -> Vec<(String, String)> {
 #[test]
 fn every_exported_function_is_declared_as_it_is() {
     let mut exported = Vec::new();
-    let sources = Path::new(env!("CARGO_MANIFEST_DIR")).join("../crates/station/src");
-    for file in fs::read_dir(&sources).expect("the station's sources") {
+    let sources = Path::new(env!("CARGO_MANIFEST_DIR")).join("../crates/station_c/src");
+    for file in fs::read_dir(&sources).expect("the sources of the exports") {
         let source = fs::read_to_string(file.expect("a source").path()).expect("a source");
         for (name, parameters, returned) in functions(&source, "pub extern \"C\" fn ") {
             exported.push((name, parameters.into_iter().flat_map(passed).collect(), returned));
