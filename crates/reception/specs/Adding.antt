@@ -19,7 +19,7 @@ of_piece x = offers.piece_at x.offset x.bytes
 
 -- a second reception offers the positions that it holds; its spare bits are not among them
 abbrev pub of_reception : Reception → Offer
-of_reception t = offers.heldIn t.length t.map t.buffer
+of_reception t = offers.held_in t.length t.map t.buffer
 
 -- the position is offered
 abbrev pub offered : Offer → ℕ → Bool
@@ -27,7 +27,7 @@ offered o p = offers.offered o p
 
 -- at a position that is held and offered, the two bytes are the same
 abbrev pub agrees_at : Reception → Offer → ℕ → Bool
-agrees_at s o p = offers.agreesAt s.map s.buffer o p
+agrees_at s o p = offers.agrees_at s.map s.buffer o p
 
 -- .. at each position: reason 11 is given where this fails
 abbrev pub agrees : Reception → Offer → Bool
@@ -35,19 +35,19 @@ agrees s o = offers.agrees s.map s.buffer o
 
 -- of the positions of an offer, one that it has and that is not held yet
 abbrev pub is_new : Reception → Offer → ℕ → Bool
-is_new s o p = offers.isNew s.map o p
+is_new s o p = offers.is_new s.map o p
 
 -- the count of newly held positions
 abbrev pub new_in : Reception → Offer → ℕ
-new_in s o = offers.newIn s.map o
+new_in s o = offers.new_in s.map o
 
 -- the map afterwards: held are the positions held before, and those offered
 abbrev pub map_with : Reception → Offer → List ℕ
-map_with s o = offers.mapWith s.map o
+map_with s o = offers.map_with s.map o
 
 -- the buffer afterwards: at each new position the offered byte, elsewhere the byte that was there
 abbrev pub buffer_with : Reception → Offer → List ℕ
-buffer_with s o = offers.bufferWith s.map s.buffer o
+buffer_with s o = offers.buffer_with s.map s.buffer o
 
 -- the reception after an answer: a refusal changes no lent byte
 abbrev pub after : Reception → Offer → Answer ℕ → Reception
