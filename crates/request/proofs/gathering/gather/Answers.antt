@@ -1,11 +1,8 @@
 -- `request::gathering::gather` meets its contract: what is listed so far, with what is left, is the whole.
 -- Assumes nothing.
 use mathlib.Core.Path.{◌≡◌, sym, ap, ◌∙◌}
-use Prim.Native.Nat.{◌-◌, ◌≤◌}
 use native.Mathlib.Omega.{arith}
 use Rattle.reason.specs.Answer.{accepted}
-use Rattle.reception.specs.Reception.{longest}
-use Rattle.holes.specs.EveryHole.{end_of}
 use Rattle.holes.specs.Listing.{listing, listed_answer}
 use Rattle.holes.proofs.ListedLaws.{listed_within}
 use Rattle.request.proofs.GatheringLaws.{at_first, one_more, no_more, all_listed}
