@@ -1,5 +1,5 @@
 -- The loop's invariant: from place i on the last digits stand, and `rest` is what is left behind them.
-use Rattle.std.proofs.Common.{length, ℕ, ◌≡◌, ◌≤◌, ◌+◌, ◌-◌, ◌/◌, ◌^◌}
+use Rattle.std.proofs.Common.{length, ◌≡◌, ◌≤◌, ◌+◌, ◌-◌, ◌/◌, ◌^◌}
 use Rattle.octets.specs.Runs.{put_in}
 use Rattle.report.specs.Decimal.{digits}
 use Rattle.report.proofs.number.put_digits.Given as goal
