@@ -5,7 +5,6 @@
 #![tactic(auto)]
 
 use ax25::{AddressRead, Role};
-use libc::STDOUT_FILENO;
 use program_tools::say;
 
 // What became of seven bytes: they were refused; read and written they are the same; they differ.
@@ -69,7 +68,7 @@ fn value(bytes: [u8; 7], at: usize, b: u8, role: Role) {
 
 fn print(b: u8, mark: &[u8]) {
     say::space();
-    io::print_hex(STDOUT_FILENO, b as u64, 2);
+    io::print_hex(say::STDOUT, b as u64, 2);
     say::text(mark);
 }
 

@@ -9,16 +9,18 @@
 mod frames;
 mod reading;
 mod requests;
-mod taking;
+mod takes;
 
-use libc::STDIN_FILENO;
 use program_tools::cells::OPERATION;
 use program_tools::lines;
 use program_tools::lines::{Reading, SPACE};
 
+// The number of standard input.
+const STDIN: i32 = 0;
+
 fn main() {
     let mut text = [0; SPACE];
-    let n = io::read_full(STDIN_FILENO, &mut text);
+    let n = io::read_full(STDIN, &mut text);
     lines::end(all(&text[..n]), n == SPACE);
 }
 
@@ -47,7 +49,7 @@ fn next(b: u8, before: Reading) -> Reading {
 fn run(c: &[u32; 32]) -> [u32; 4] {
     let operation = c[OPERATION];
     match operation {
-        1 => taking::taken(c),
+        1 => takes::taken(c),
         8 | 9 | 14 => requests::run(c, operation),
         _ => reading::run(c, operation),
     }

@@ -10,14 +10,16 @@ mod receptions;
 mod records;
 mod requests;
 
-use libc::STDIN_FILENO;
 use program_tools::cells::OPERATION;
 use program_tools::lines;
 use program_tools::lines::{Reading, SPACE};
 
+// The number of standard input.
+const STDIN: i32 = 0;
+
 fn main() {
     let mut text = [0; SPACE];
-    let n = io::read_full(STDIN_FILENO, &mut text);
+    let n = io::read_full(STDIN, &mut text);
     lines::end(all(&text[..n]), n == SPACE);
 }
 

@@ -11,9 +11,13 @@ ghost use Rattle.reception.specs.Reception.{longest};
 ghost use Rattle.record.specs.Record.{record_length};
 ghost use Rattle.report.specs.Reporting.{Reports};
 
-use libc::{STDIN_FILENO, STDOUT_FILENO};
 use record::LARGEST;
 use report::{LONGEST_TEXT, Reported};
+
+// The numbers of standard input and of standard output.
+const STDIN: i32 = 0;
+
+const STDOUT: i32 = 1;
 
 // One byte more than the largest record has, so that a byte too many is noticed.
 const INPUT: usize = LARGEST + 1;
@@ -22,12 +26,12 @@ const INPUT: usize = LARGEST + 1;
 // it to standard output, both in large blocks.
 pub fn run() {
     let mut input = [0u8; INPUT];
-    let n = io::read_full(STDIN_FILENO, &mut input);
+    let n = io::read_full(STDIN, &mut input);
     let mut text = [0u8; LONGEST_TEXT];
     let Reported::Accepted(size) = report_all(&input, n, &mut text) else {
         return;
     };
-    io::write_all(STDOUT_FILENO, &text[..size]);
+    io::write_all(STDOUT, &text[..size]);
 }
 
 // Writes the text of a whole input, of which the first bytes were read: as many as there is space for, or all of

@@ -11,7 +11,7 @@ mod damages;
 mod fills;
 mod picks;
 mod reads;
-mod runs;
+mod request_runs;
 mod tables;
 mod texts;
 mod writers;
@@ -31,7 +31,7 @@ const HOLES: u8 = 5;
 
 // What the library writes and what it reads.
 fn main() {
-    runs::all();
+    request_runs::all();
     reads::back();
     each(PLACES, 24);
     fills::lengths();
