@@ -1,6 +1,6 @@
 -- Laws of the whole text: which answer `report` gives, and that the text is the one of the record that was read.
 -- Assumes nothing.
-use mathlib.Core.Path.{◌≡◌, refl, sym, ap, ap₂, ◌∙◌}
+use mathlib.Core.Path.{◌≡◌, refl, sym, ap, ◌∙◌}
 use mathlib.Core.Bool.{false}
 use mathlib.Core.List.{List}
 use Prim.Native.Nat.{ℕ, ◌≤◌, ◌<◌}
@@ -14,7 +14,7 @@ use Rattle.octets.specs.Runs.{put_in}
 use Rattle.positions.specs.Map.{map_size}
 use Rattle.reception.specs.Reception.{wrong_length}
 use Rattle.record.specs.declared.Recorded.{Recorded}
-use Rattle.record.specs.Reading.{map_in, read_record, map_read}
+use Rattle.record.specs.Reading.{read_record, map_read}
 use Rattle.record.proofs.GivenAnswers.{is_formed, map_in_long, read_says, map_handed_out}
 use Rattle.report.specs.declared.Reported.TheVariants.{Accepted, Refused}
 use Rattle.report.specs.Text.{refused_line, file_lines, longest_text}

@@ -2,7 +2,7 @@
 -- so it is enough to read one byte more than the largest record has.
 -- Assumes nothing.
 use mathlib.Core.Path.{◌≡◌, refl, sym, ap, ◌∙◌}
-use mathlib.Core.Bool.{Bool, true, false, true≢false}
+use mathlib.Core.Bool.{Bool, true, false}
 use mathlib.Core.Logic.{⊎_elim}
 use mathlib.Core.List.{List, ◌++◌}
 use Prim.Native.Nat.{ℕ, ◌≤◌, ◌<◌}
@@ -24,11 +24,11 @@ use Rattle.holes.proofs.HoleLaws.{all_holes}
 use Rattle.record.specs.declared.Recorded.{Recorded}
 use Rattle.record.specs.Record.{record_length}
 use Rattle.record.specs.Reading.{map_in, is_record, read_record}
-use Rattle.record.proofs.GivenAnswers.{is_formed, reads_13, reads, read_says, map_handed_out}
+use Rattle.record.proofs.GivenAnswers.{is_formed, reads_13, read_says, map_handed_out}
 use Rattle.record.proofs.RoundTrip.{never_larger}
 use Rattle.report.specs.declared.Reported.{Reported}
 use Rattle.report.specs.declared.Reported.TheVariants.{Accepted}
-use Rattle.report.specs.Text.{file_line, hole_lines, refused_line, file_lines, longest_text}
+use Rattle.report.specs.Text.{file_line, hole_lines, refused_line, longest_text}
 use Rattle.report.specs.Reporting.{lines_of, text_of, reporting_checks, reporting, reported_answer, Reports}
 use Rattle.report.proofs.TextLaws.{fits, refusal_fits}
 use Rattle.report.proofs.ReportLaws.{file_needs}

@@ -1,12 +1,11 @@
 -- Laws of writing text: a byte in front of a run, and one run behind the other.
 -- Assumes nothing.
-use mathlib.Core.Path.{◌≡◌, refl, sym, ap, ap₂, ◌∙◌}
-use mathlib.Core.List.{List, [], ◌∷◌, ◌++◌}
-use Prim.Native.Nat.{ℕ, suc, ◌+◌, ◌≤◌}
-use native.Mathlib.Nat.{add_assoc, suc-add, add-suc}
+use mathlib.Core.Path.{◌≡◌, sym, ap, ap₂, ◌∙◌}
+use mathlib.Core.List.{List, ◌++◌}
+use Prim.Native.Nat.{ℕ, ◌+◌, ◌≤◌}
+use native.Mathlib.Nat.{add_assoc}
 use native.Mathlib.Omega.{arith}
-use lib.ListN.{length, take, drop, set, length-append}
-use lib.Seq.{length-take-le, set-append_left, take-set-lt, take-suc-set, append_snoc}
+use lib.ListN.{length, length-append}
 use Rattle.octets.specs.Runs.{put_in}
 use Rattle.octets.proofs.RunLaws.{put_length, put_put}
 
