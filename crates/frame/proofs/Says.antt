@@ -117,6 +117,7 @@ any_with n [] = false
 any_with n (check b m ∷ checks) = eqb m n && b || any_with n checks
 
 first_any : (n : ℕ) (checks : List Check) → First n checks → any_with n checks ≡ true
+first_any n [] f = elim f [ ]
 first_any n (check b m ∷ checks) (inl f) =
     ap₂ (λ (x y : Bool). x && y || any_with n checks) (eq-eqb m n f.1) f.0
 first_any n (check b m ∷ checks) (inr f) = ap (λ (x : Bool). eqb m n && b || x) (first_any n checks f.1) ∙ or-true (eqb m n && b)

@@ -1,0 +1,21 @@
+-- `frame::read_entry` meets its contract: the head's answer where it refuses, and else that of the information behind it.
+-- Assumes nothing.
+use Rattle.ax25.specs.Information.{directory_protocol}
+use Rattle.frame.specs.Entry.{entry_checks, entry_fields, read_entry}
+use Rattle.ax25.proofs.Layers.{long, behind_head, refused_head}
+use Rattle.frame.proofs.read_entry.Goals as goal
+
+-- behind an accepted head there is information
+pub slice_bounds-read-count : goal.slice_bounds-read-count
+slice_bounds-read-count c = long directory_protocol c.args.frame.now entry_checks entry_fields _ c.read_head.ensures _ c.in-Accepted.is
+
+pub slice_bounds-read-start : goal.slice_bounds-read-start
+slice_bounds-read-start c = long directory_protocol c.args.frame.now entry_checks entry_fields _ c.read_head.ensures _ c.in-Accepted.is
+
+pub returns-in-Accepted : goal.returns-in-Accepted
+unfolding read_entry
+returns-in-Accepted c = behind_head directory_protocol c.args.frame.now entry_checks entry_fields _ c.read_head.ensures _ c.in-Accepted.is _ c.read.ensures
+
+pub returns-in-Refused : goal.returns-in-Refused
+unfolding read_entry
+returns-in-Refused c = refused_head directory_protocol c.args.frame.now entry_checks entry_fields _ c.read_head.ensures _ c.in-Refused.is
