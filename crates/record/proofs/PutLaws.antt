@@ -10,7 +10,6 @@ use native.Mathlib.Nat.{zero-add, mod-le, mod-lt, mod-eq_of_lt, lt_of_lt_of_le}
 use native.Mathlib.Numerals.{unary_clauses}
 use native.Mathlib.Omega.{arith}
 use lib.Bits.{bit_and, and_mask, and_zero_r}
-use lib.Dec.{eqb}
 use lib.ListN.{length, set, take}
 use lib.Pow.{pow_pos, pow_mono}
 use lib.Seq.{length-take-le, get_or-take, ext_get_or}

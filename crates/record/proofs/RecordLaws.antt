@@ -1,21 +1,18 @@
 -- Laws of a record's shape: its four parts one behind the other, how long it is, and how it is written part by part.
 -- Assumes nothing.
 use mathlib.Core.Path.{◌≡◌, refl, sym, ap, ap₂, ◌∙◌}
-use mathlib.Core.Bool.{Bool, false, ◌&&◌}
+use mathlib.Core.Bool.{Bool}
 use mathlib.Core.List.{List, [], ◌∷◌, ◌++◌, append_assoc}
 use Prim.Native.Nat.{ℕ, ◌+◌, ◌≤◌}
 use native.Mathlib.Omega.{arith}
-use lib.Dec.{leb}
 use lib.ListN.{length, get_or, length-append}
-use borrow.Author.Tests.{leb-true, not-false}
-use Rattle.reason.proofs.Bools.{and_left, and_right}
 use Rattle.octets.specs.Numbers.{bytes_of}
 use Rattle.octets.specs.Runs.{put_in, Put}
 use Rattle.octets.proofs.ValueLaws.{values_long}
 use Rattle.octets.proofs.RunLaws.{put_length, put_fits, put_put}
 use Rattle.positions.specs.Map.{map_size}
 use Rattle.positions.proofs.MapLaws.{map_long}
-use Rattle.reception.specs.Reception.{Reception, longest, wrong_length}
+use Rattle.reception.specs.Reception.{Reception}
 use Rattle.record.specs.Record.{field, saved_map, saved_buffer, record_of, map_at, buffer_at, record_length}
 
 -- the bytes before the map, and the bytes between the map and the buffer
