@@ -1,15 +1,15 @@
 -- A written request is read back: its fields and its holes (demand 2).
 -- Assumes nothing.
-use mathlib.Core.Path.{◌≡◌, refl, sym, ap, ap₂, ◌∙◌}
-use mathlib.Core.Bool.{Bool, true, false, not, ◌&&◌}
-use mathlib.Core.List.{List, [], ◌∷◌, ◌++◌}
-use Prim.Native.Nat.{ℕ, zero, suc, ◌+◌, ◌*◌, ◌^◌, ◌≤◌, ◌<◌}
+use mathlib.Core.Path.{◌≡◌, refl, sym, ap, ◌∙◌}
+use mathlib.Core.Bool.{true, ◌&&◌}
+use mathlib.Core.List.{List, [], ◌∷◌}
+use Prim.Native.Nat.{ℕ, suc, ◌^◌, ◌≤◌, ◌<◌}
 use native.Mathlib.Omega.{arith}
 use lib.Dec.{leb}
 use lib.ListN.{length, take, length-append}
 use borrow.Author.Tests.{ltb-false, le-leb, not-false}
-use Rattle.reason.specs.Answer.{Answer, accepted, refused, leaving}
-use Rattle.reason.specs.Order.{NoneHolds, first_of}
+use Rattle.reason.specs.Answer.{accepted, leaving}
+use Rattle.reason.specs.Order.{NoneHolds}
 use Rattle.reason.proofs.Bools.{and_left, and_right, and_both}
 use Rattle.reason.proofs.OrderLaws.{accepted_only_if, accepted_if}
 use Rattle.octets.specs.Lists.{Each}
@@ -17,13 +17,13 @@ use Rattle.octets.specs.Runs.{put_in}
 use Rattle.octets.proofs.RunLaws.{put_part}
 use Rattle.ax25.specs.declared.Head.{Head}
 use Rattle.ax25.specs.Address.{is_writable}
-use Rattle.ax25.specs.Head.{head_length, head_bytes}
+use Rattle.ax25.specs.Head.{head_bytes}
 use Rattle.ax25.specs.Information.{file_protocol}
 use Rattle.holes.specs.declared.Hole.{Hole}
-use Rattle.reception.specs.Reception.{longest, wrong_length}
+use Rattle.reception.specs.Reception.{longest}
 use Rattle.holes.specs.Holes.{hole_from, IsHole}
 use Rattle.holes.specs.Listing.{listing, listing_checks}
-use Rattle.holes.specs.EveryHole.{end_of, listed_from, last_end, Ascending}
+use Rattle.holes.specs.EveryHole.{end_of, last_end, Ascending}
 use Rattle.reception.proofs.OfferLaws.{right_length}
 use Rattle.holes.proofs.HoleLaws.{all_are_holes, ascending}
 use Rattle.holes.proofs.ListedLaws.{listed_more, listed_most}
