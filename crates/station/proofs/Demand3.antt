@@ -1,14 +1,13 @@
 -- The third demand, proved: what one frame does is in `OneFrame`, what a station holds in `StationLaws`, that every reception that is made is
 -- a station's in `MadeLaws`, what calls leave in `CallLaws`, and the laws of joining, over any sets of positions, in `reception`.
 -- Assumes nothing.
-use mathlib.Core.Path.{◌≡◌, refl, sym, ap, ap₂, ◌∙◌}
+use mathlib.Core.Path.{◌≡◌, refl, sym, ap, ◌∙◌}
 use mathlib.Core.Bool.{Bool, true, false, ◌||◌}
 use mathlib.Core.List.{List}
 use Prim.Native.Nat.{ℕ, ◌^◌, ◌<◌}
 use Rattle.reason.specs.Answer.{accepted}
 use Rattle.octets.specs.Lists.{OneOf}
 use Rattle.octets.specs.Numbers.{AllBytes}
-use Rattle.positions.specs.Map.{held, map_size}
 use Rattle.reception.specs.Reception.{Reception, wrong_length, short_space}
 use Rattle.reception.specs.Joining.{joined}
 use Rattle.reception.specs.Contents.{HoldsOf, itself}
@@ -21,7 +20,7 @@ use Rattle.record.specs.Record.{record_of}
 use Rattle.record.specs.Loading.{loaded}
 use Rattle.record.proofs.RoundTrip as saved
 use Rattle.taking.specs.Taking.{taking_frame, taken_frame}
-use Rattle.station.specs.Sequences.{taken_frames, in_piece, fits_file, covered}
+use Rattle.station.specs.Sequences.{taken_frames, fits_file, covered}
 use Rattle.station.specs.Stations.{Station, reception_of, Made, frames_in}
 use Rattle.station.specs.Demand3.{Demand3}
 use Rattle.station.proofs.OneFrame as one
