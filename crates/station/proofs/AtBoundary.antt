@@ -106,10 +106,10 @@ stands_there before frame =
     ap (take (length part)) (sym (drop-drop before 16 frame)) ∙ front_again (length i - 2 - before) (drop before i)
 
 -- what is left after an answer, as a reception
-counted_after : (number l : ℕ) (lent left : out.Counted) (o : Offer) (x : Answer ℕ) → left ≡ leaving (out.countedWith (out.lentTo number l lent) o) lent x
-    → out.lentTo number l left ≡ after (out.lentTo number l lent) o x
-counted_after number l lent left o (accepted n) e = ap (out.lentTo number l) e
-counted_after number l lent left o (refused n) e = ap (out.lentTo number l) e
+counted_after : (number l : ℕ) (lent left : out.Counted) (o : Offer) (x : Answer ℕ) → left ≡ leaving (out.counted_with (out.lent_to number l lent) o) lent x
+    → out.lent_to number l left ≡ after (out.lent_to number l lent) o x
+counted_after number l lent left o (accepted n) e = ap (out.lent_to number l) e
+counted_after number l lent left o (refused n) e = ap (out.lent_to number l) e
 
 -- its eighth byte is bit 7, and then above 1
 too_large : (n : ℕ) → 2 * 256 ^ 7 ≤ n → is_writable (address_of n) ≡ false
@@ -120,8 +120,8 @@ pub at_boundary : AtBoundary
 unfolding head_checks piece_checks entry_checks request_checks
 at_boundary = record {
   station_open = λ l lent. returns (opening_checks l lent.map lent.buffer) _ _ _ lent refl (open_in_order l lent.map lent.buffer);
-  station_take = λ number l frame lent. let s = out.lentTo number l lent in returns (taking_order s frame) _ _ _ lent refl (take_in_order s frame);
-  station_join = λ number l t lent. let s = out.lentTo number l lent in returns (joining_checks s t) _ _ _ lent refl (join_in_order s t);
+  station_take = λ number l frame lent. let s = out.lent_to number l lent in returns (taking_order s frame) _ _ _ lent refl (take_in_order s frame);
+  station_join = λ number l t lent. let s = out.lent_to number l lent in returns (joining_checks s t) _ _ _ lent refl (join_in_order s t);
   station_list = λ l map place lent. returns (listing_checks l map place) _ _ _ lent refl (list_in_order l map place);
   station_save = λ s lent. returns (saving_checks s lent.target) _ _ _ lent refl (save_in_order s lent.target);
   station_load = λ saved lent. returns (loading_checks saved lent.map lent.buffer) _ _ _ lent refl
@@ -136,9 +136,9 @@ at_boundary = record {
   opens_it = λ number l lent left r p e.
       ap (reception_in number l) (told (opening_checks l lent.map lent.buffer) _ _ _ lent refl (open_in_order l lent.map lent.buffer) r left p e).1;
   takes_in = λ number l frame lent left r p.
-      counted_after number l lent left (of_piece (piece_data_in frame)) (taking_frame (out.lentTo number l lent) frame) p.leaves;
+      counted_after number l lent left (of_piece (piece_data_in frame)) (taking_frame (out.lent_to number l lent) frame) p.leaves;
   joins_in = λ number l t lent left r p.
-      counted_after number l lent left (of_reception t) (joining (out.lentTo number l lent) t) p.leaves;
+      counted_after number l lent left (of_reception t) (joining (out.lent_to number l lent) t) p.leaves;
   saves_it = λ s lent left r p e.
       let is = told (saving_checks s lent.target) _ _ _ lent refl (save_in_order s lent.target) r left p e in
       ap (λ (x : out.Sized). take x.size x.target) is.1

@@ -21,7 +21,7 @@ use Rattle.record.specs.declared.Saved.{Saved}
 use Rattle.record.specs.Record.{record_of, record_length}
 use Rattle.record.specs.Saving.{saved_answer, Saves}
 use Rattle.record.specs.Reading.{record_answer}
-use Rattle.record.specs.Loading.{loading, loaded_map, loaded_buffer, loaded, Loads}
+use Rattle.record.specs.Loading.{loaded_map, loaded_buffer, loaded, Loads}
 use Rattle.record.proofs.RoundTrip.{record_stands, holding_is_saved, holding_is_loaded, holding_is_given_back}
 use Rattle.station.specs.Lent.{Lent, reception_in}
 use Rattle.station.specs.Sequences.{taken_frames}

@@ -93,6 +93,7 @@ in_table [] = true
 in_table (check holds n ∷ checks) = (leb 1 n && leb n last_reason) && in_table checks
 
 pub in_table_lem : (checks : List Check) → in_table checks ≡ true → (n : ℕ) → First n checks → (1 ≤ n) × (n ≤ last_reason)
+in_table_lem [] t n x = elim x [ ]
 in_table_lem (check holds m ∷ checks) t n (inl first) =
     let both = and_left (leb 1 m && leb m last_reason) (in_table checks) t in
     let low = leb-true 1 m (and_left (leb 1 m) (leb m last_reason) both) in
@@ -242,7 +243,7 @@ demand_1 = record {
   reads_entry = λ frame. reads _ _ _ (read_entry frame) refl (read_entry_in_order frame) (some_entry (read_entry frame));
   reads_request = λ frame. reads _ _ _ (read_request frame) refl (read_request_in_order frame) (some_request (read_request frame));
   takes = λ number l lent frame. let s = reception_in number l lent in adds number l lent _ _ _ (taking_frame s frame) refl (take_in_order s frame);
-  takes_piece = λ number l lent x. let s = reception_in number l lent in adds number l lent _ _ _ (taking s x) refl (piece.take-in-order s x);
+  takes_piece = λ number l lent x. let s = reception_in number l lent in adds number l lent _ _ _ (taking s x) refl (piece.take_in_order s x);
   opens = λ l lent. let answer = opening l lent.map lent.buffer in
       by_order _ _ outcome lent _ answer refl (open_in_order l lent.map lent.buffer) (λ r left p. p.answers)
       (λ r left p n e. both_kept answer _ _ lent left n e p.leaves_map p.leaves_buffer) (

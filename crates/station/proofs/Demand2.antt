@@ -54,8 +54,8 @@ demand_2 = record {
   address_is_read = written_address_is_read;
   address_is_written = read_address_is_written;
   piece_says = piece_says;
-  piece_is_read = λ p bytes m. (piece.made-piece-is-read p bytes m, piece.made-piece-is-handed-out p bytes m);
-  piece_is_made = λ frame p bytes read. (piece.accepted-piece-is-made frame p bytes read, piece.accepted-piece-can-be-made frame p bytes read);
+  piece_is_read = λ p bytes m. (piece.made_piece_is_read p bytes m, piece.made_piece_is_handed_out p bytes m);
+  piece_is_made = λ frame p bytes read. (piece.accepted_piece_is_made frame p bytes read, piece.accepted_piece_can_be_made frame p bytes read);
   entry_says = entry_says;
   entry_is_read = entry_is_read;
   entry_keeps = accepted_entry_keeps;
@@ -68,9 +68,9 @@ demand_2 = record {
   fifteen_says = none_only_if;
   request_says = request_says;
   request_is_read = λ head asks number holes m.
-      (request.made-request-is-read head asks number holes m, request.made-hole-is-read head asks number holes m);
+      (request.made_request_is_read head asks number holes m, request.made_hole_is_read head asks number holes m);
   request_is_made = λ frame r bytes read.
-      (request.accepted-request-is-made frame bytes r read, request.accepted-request-can-be-made frame bytes r read);
+      (request.accepted_request_is_made frame bytes r read, request.accepted_request_can_be_made frame bytes r read);
   fill_is_read = λ w place t x written number.
       (written_fill_is_read w place t x written number, written_holes_are_read w place t x written number);
   start_is_read = written_start_is_read;
@@ -85,7 +85,7 @@ demand_2 = record {
   held_is_never_named = λ w t can. held_is_never_named w t can.addresses can.numbered can.room can.right can.mapped;
   only_missing_is_named = names_only_unheld;
   record_says = record_says;
-  record_is_loaded = saved.load-after-save;
-  record_is_saved = λ r map buffer all x e. (saved.save-after-load r map buffer all x e, saved.saves-after-load r map buffer all x e);
-  one_record = saved.one-record;
+  record_is_loaded = saved.load_after_save;
+  record_is_saved = λ r map buffer all x e. (saved.save_after_load r map buffer all x e, saved.saves_after_load r map buffer all x e);
+  one_record = saved.one_record;
 }

@@ -1,14 +1,13 @@
 -- The third demand, proved: what one frame does is in `OneFrame`, what a station holds in `StationLaws`, that every reception that is made is
 -- a station's in `MadeLaws`, what calls leave in `CallLaws`, and the laws of joining, over any sets of positions, in `reception`.
 -- Assumes nothing.
-use mathlib.Core.Path.{◌≡◌, refl, sym, ap, ap₂, ◌∙◌}
+use mathlib.Core.Path.{◌≡◌, refl, sym, ap, ◌∙◌}
 use mathlib.Core.Bool.{Bool, true, false, ◌||◌}
 use mathlib.Core.List.{List}
 use Prim.Native.Nat.{ℕ, ◌^◌, ◌<◌}
 use Rattle.reason.specs.Answer.{accepted}
 use Rattle.octets.specs.Lists.{OneOf}
 use Rattle.octets.specs.Numbers.{AllBytes}
-use Rattle.positions.specs.Map.{held, map_size}
 use Rattle.reception.specs.Reception.{Reception, wrong_length, short_space}
 use Rattle.reception.specs.Joining.{joined}
 use Rattle.reception.specs.Contents.{HoldsOf, itself}
@@ -21,7 +20,7 @@ use Rattle.record.specs.Record.{record_of}
 use Rattle.record.specs.Loading.{loaded}
 use Rattle.record.proofs.RoundTrip as saved
 use Rattle.taking.specs.Taking.{taking_frame, taken_frame}
-use Rattle.station.specs.Sequences.{taken_frames, in_piece, fits_file, covered}
+use Rattle.station.specs.Sequences.{taken_frames, fits_file, covered}
 use Rattle.station.specs.Stations.{Station, reception_of, Made, frames_in}
 use Rattle.station.specs.Demand3.{Demand3}
 use Rattle.station.proofs.OneFrame as one
@@ -42,15 +41,15 @@ module _ (number l : ℕ) (file : List ℕ) (ok : wrong_length l ≡ false) wher
   repeat_counts_0 : (a : Station number l file) (frame : List ℕ) → OneOf frame a.frames → fits_file number l frame ≡ true
       → (taking_frame (reception_of a) frame ≡ accepted 0) × (taken_frame (reception_of a) frame ≡ reception_of a)
   repeat_counts_0 a frame among fit =
-      one.held-counts-0 number l file ok (covered number l a.frames) (reception_of a) (of.holds-fitting number l file ok a) frame fit
-      (of.one-agrees number l file ok frame a.frames a.agree among fit)
-      (λ p w. of.covered-is-held number l file ok a p (of.one_covers number l file ok frame a.frames among fit p w))
+      one.held_counts_0 number l file ok (covered number l a.frames) (reception_of a) (of.holds_fitting number l file ok a) frame fit
+      (of.one_agrees number l file ok frame a.frames a.agree among fit)
+      (λ p w. of.covered_is_held number l file ok a p (of.one_covers number l file ok frame a.frames among fit p w))
 
   -- ---- saved and loaded
   module _ (s t : Reception) (m : Made number l file s) (n : Made number l file t) (four : number < 256 ^ 4) (map buffer : List ℕ)
       (bytes : AllBytes map) (room : short_space l map buffer ≡ false) where
     back : (u : Reception) (o : Made number l file u) → HoldsOf number l file (set u o) (loaded (record_of u) map buffer)
-    back u o = saved.holding-is-given-back number l file (set u o) u (holds u o) ok four map buffer room bytes
+    back u o = saved.holding_is_given_back number l file (set u o) u (holds u o) ok four map buffer room bytes
 
     loaded_second : joined s (loaded (record_of t) map buffer) ≡ joined s t
     loaded_second =
@@ -78,42 +77,42 @@ module _ (number l : ℕ) (file : List ℕ) (ok : wrong_length l ≡ false) wher
     by_calls = λ a r opens last o calls.
         calls_take number l opens last a.frames calls
         ∙ ap (λ (s : Reception). taken_frames s a.frames) (open_leaves number l (record { map = a.map; buffer = a.buffer }) opens r a.opens o);
-    held_exactly = of.held-exactly number l file ok;
-    accepted_are_fitting = of.accepted-are-fitting number l file ok;
-    same_coverage = of.same-coverage number l file ok;
+    held_exactly = of.held_exactly number l file ok;
+    accepted_are_fitting = of.accepted_are_fitting number l file ok;
+    same_coverage = of.same_coverage number l file ok;
     repeat_counts_0 = repeat_counts_0;
-    beyond_unchanged = λ a. of.beyond-unchanged number l file ok a ∙ opened_beyond number l a.map a.buffer;
-    join_is_both = of.join-is-both number l file ok;
-    join_is_one_station = of.join-is-one-station number l file ok;
-    join_is_any_station = of.join-is-any-station number l file ok;
-    made_is_a_station = made.made-is-a-station number l file ok;
-    stations_are_made = made.stations-are-made number l file ok;
+    beyond_unchanged = λ a. of.beyond_unchanged number l file ok a ∙ opened_beyond number l a.map a.buffer;
+    join_is_both = of.join_is_both number l file ok;
+    join_is_one_station = of.join_is_one_station number l file ok;
+    join_is_any_station = of.join_is_any_station number l file ok;
+    made_is_a_station = made.made_is_a_station number l file ok;
+    stations_are_made = made.stations_are_made number l file ok;
     made_holds = made.made_holds number l file ok;
-    fitting_is_taken = λ s m. one.fitting-is-taken number l file ok (set s m) s (holds s m);
-    held_counts_0 = λ s m. one.held-counts-0 number l file ok (set s m) s (holds s m);
-    other_is_refused = λ s m. one.other-is-refused number l file ok (set s m) s (holds s m);
+    fitting_is_taken = λ s m. one.fitting_is_taken number l file ok (set s m) s (holds s m);
+    held_counts_0 = λ s m. one.held_counts_0 number l file ok (set s m) s (holds s m);
+    other_is_refused = λ s m. one.other_is_refused number l file ok (set s m) s (holds s m);
     itself_is_given_back = λ s m four map buffer bytes room.
-        saved.itself-is-given-back number l file (set s m) s (holds s m) ok four map buffer room bytes;
+        saved.itself_is_given_back number l file (set s m) s (holds s m) ok four map buffer room bytes;
     loaded_are_joined = λ s t m n four map buffer bytes room.
         (loaded_second s t m n four map buffer bytes room, loaded_first s t m n four map buffer bytes room);
-    beyond_taken = λ s m. one.frame-beyond number l file ok (set s m) s (holds s m);
+    beyond_taken = λ s m. one.frame_beyond number l file ok (set s m) s (holds s m);
     beyond_joined = λ s t m. joined_beyond s (holds s m).map_bytes t;
-    beyond_loaded = λ s m four map buffer bytes room. saved.loaded-beyond number l file (set s m) s (holds s m) ok four map buffer room bytes;
-    join_counts = λ s t m n. over.never-refused number l file ok (set s m) (set t n) s t (holds s m) (holds t n);
+    beyond_loaded = λ s m four map buffer bytes room. saved.loaded_beyond number l file (set s m) s (holds s m) ok four map buffer room bytes;
+    join_counts = λ s t m n. over.never_refused number l file ok (set s m) (set t n) s t (holds s m) (holds t n);
     either_order = λ s t m n. over.either_order number l file ok (set s m) (set t n) s t (holds s m) (holds t n);
-    any_grouping = λ s t u m n o. over.any-grouping number l file ok (set s m) (set t n) s t (holds s m) (holds t n) (set u o) u (holds u o);
+    any_grouping = λ s t u m n o. over.any_grouping number l file ok (set s m) (set t n) s t (holds s m) (holds t n) (set u o) u (holds u o);
     repeated = λ s t m n. (
       over.repeated number l file ok (set s m) (set t n) s t (holds s m) (holds t n),
-      over.repeated-counts-0 number l file ok (set s m) (set t n) s t (holds s m) (holds t n),
+      over.repeated_counts_0 number l file ok (set s m) (set t n) s t (holds s m) (holds t n),
     );
     with_itself = λ s m. over.with_itself number l file ok (set s m) s (holds s m);
     fresh_is_neutral = λ s m map buffer bytes opens. (
-      over.fresh-second number l file ok (set s m) s (holds s m) map buffer bytes opens,
-      over.fresh-first number l file ok (set s m) s (holds s m) map buffer bytes opens,
+      over.fresh_second number l file ok (set s m) s (holds s m) map buffer bytes opens,
+      over.fresh_first number l file ok (set s m) s (holds s m) map buffer bytes opens,
     );
-    holes_listed = λ s m. holes.all-holes l s.map ok (holds s m).map_long;
-    missing_is_in_a_hole = λ s m. holes.in-a-hole l s.map;
+    holes_listed = λ s m. holes.all_holes l s.map ok (holds s m).map_long;
+    missing_is_in_a_hole = λ s m. holes.in_a_hole l s.map;
     first_from_place = λ s m place hole e.
-        (let first = holes.hole-first l s.map place hole e in (holes.hole-is l s.map place hole e, first.0, first.1));
+        (let first = holes.hole_first l s.map place hole e in (holes.hole_is l s.map place hole e, first.0, first.1));
     none_left_is_the_file = λ s m. none_left_is_the_file number l file (set s m) s (holds s m);
   }

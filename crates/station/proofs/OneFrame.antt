@@ -43,7 +43,7 @@ module _ (number l : ℕ) (file : List ℕ) (ok : wrong_length l ≡ false) (S :
       → taking_frame s frame ≡ accepted (count (λ p. not (held s.map p)) (piece_data_in frame).offset (length (piece_data_in frame).bytes))
   fitting_is_taken fit agree =
       let f = fitting_frame number l frame fit in
-      frame_accepted s frame f.0.0 f.0.1 ∙ holding.fitting-is-taken number l file ok S s h (piece_data_in frame) f.1 agree
+      frame_accepted s frame f.0.0 f.0.1 ∙ holding.fitting_is_taken number l file ok S s h (piece_data_in frame) f.1 agree
 
   -- .. any other is refused, and changes nothing
   pub other_is_refused : fits_file number l frame ≡ false → ((n : ℕ) × (taking_frame s frame ≡ refused n)) × (taken_frame s frame ≡ s)
@@ -53,7 +53,7 @@ module _ (number l : ℕ) (file : List ℕ) (ok : wrong_length l ≡ false) (S :
           → ((n : ℕ) × (taking_frame s frame ≡ refused n)) × (taken_frame s frame ≡ s)
       go (refused n) e _ = ((n, frame_refused s frame n e), frame_leaves s frame n e)
       go (accepted p) e unfit =
-          let r = holding.unfitting-is-refused number l file ok S s h (piece_data_in frame) unfit in
+          let r = holding.unfitting_is_refused number l file ok S s h (piece_data_in frame) unfit in
           let answer : taking_frame s frame ≡ refused r.0 = frame_accepted s frame p e ∙ r.1 in
           ((r.0, answer), ap (after s (of_piece (piece_data_in frame))) answer)
 
@@ -70,8 +70,8 @@ module _ (number l : ℕ) (file : List ℕ) (ok : wrong_length l ≡ false) (S :
       → (taking_frame s frame ≡ accepted 0) × (taken_frame s frame ≡ s)
   held_counts_0 fit agree all =
       let f = fitting_frame number l frame fit in (
-        frame_accepted s frame f.0.0 f.0.1 ∙ laws.held-counts-0 number l file ok S s h (piece_data_in frame) f.1 agree all,
-        frame_taken s frame f.0.0 f.0.1 ∙ laws.held-changes-nothing number l file ok S s h (piece_data_in frame) f.1 agree all,
+        frame_accepted s frame f.0.0 f.0.1 ∙ laws.held_counts_0 number l file ok S s h (piece_data_in frame) f.1 agree all,
+        frame_taken s frame f.0.0 f.0.1 ∙ laws.held_changes_nothing number l file ok S s h (piece_data_in frame) f.1 agree all,
       )
 
   -- a position is held afterwards exactly if it was before, or the frame fits and its piece covers it
@@ -85,7 +85,7 @@ module _ (number l : ℕ) (file : List ℕ) (ok : wrong_length l ≡ false) (S :
           (holding.told number l file S (λ p. S p || false) s (λ p. sym (or-false (S p))) h)
       go (accepted p) e agree =
           carry (HoldsOf number l file (λ q. S q || covers number l (piece_data_in frame) q)) (taken_frame s frame) (taken s (piece_data_in frame))
-          (frame_taken s frame p e) (holding.taken-holds number l file ok S s h (piece_data_in frame) agree)
+          (frame_taken s frame p e) (holding.taken_holds number l file ok S s h (piece_data_in frame) agree)
 
   -- lent space beyond the file stays, whatever the frame
   pub frame_beyond : beyond (taken_frame s frame) ≡ beyond s

@@ -98,11 +98,13 @@ module _ (number l : ℕ) (file : List ℕ) (ok : wrong_length l ≡ false) wher
   -- a frame of the sequence that fits agrees, and what it covers is covered
   pub one_agrees : (frame : List ℕ) (frames : List (List ℕ)) → AllAgree number l file frames → OneOf frame frames → fits_file number l frame ≡ true
       → AgreesWith file (piece_data_in frame)
+  one_agrees frame [] a x fit = elim x [ ]
   one_agrees frame (f ∷ frames) a (inl e) fit = rw e (a.0 (rw e at fit))
   one_agrees frame (f ∷ frames) a (inr m) fit = one_agrees frame frames a.1 m fit
 
   pub one_covers : (frame : List ℕ) (frames : List (List ℕ)) → OneOf frame frames → fits_file number l frame ≡ true → (p : ℕ) → in_piece frame p ≡ true
       → covered number l frames p ≡ true
+  one_covers frame [] x fit p w = elim x [ ]
   one_covers frame (f ∷ frames) (inl e) fit p w = rw (sym e) (ap₂ (λ (b c : Bool). b && c || covered number l frames p) fit w)
   one_covers frame (f ∷ frames) (inr m) fit p w =
       ap (λ (b : Bool). fits_file number l f && in_piece f p || b) (one_covers frame frames m fit p w) ∙ or-true (fits_file number l f && in_piece f p)

@@ -44,9 +44,9 @@ pub record Returns {L : Type 0} (checks : List Check) (lent : L) (promise : ℕ 
 pub record AtBoundary : Type 0 where
   pub station_open : (l : ℕ) (lent : Lent) → Returns (opening_checks l lent.map lent.buffer) lent (out.OpensOut l lent)
   pub station_take : (number l : ℕ) (frame : List ℕ) (lent : out.Counted)
-      → Returns (taking_order (out.lentTo number l lent) frame) lent (out.TakesOut number l frame lent)
+      → Returns (taking_order (out.lent_to number l lent) frame) lent (out.TakesOut number l frame lent)
   pub station_join : (number l : ℕ) (t : Reception) (lent : out.Counted)
-      → Returns (joining_checks (out.lentTo number l lent) t) lent (out.JoinsOut number l t lent)
+      → Returns (joining_checks (out.lent_to number l lent) t) lent (out.JoinsOut number l t lent)
   pub station_list : (l : ℕ) (map : List ℕ) (place : ℕ) (lent : Hole) → Returns (listing_checks l map place) lent (out.ListsOut l map place lent)
   pub station_save : (s : Reception) (lent : out.Sized) → Returns (saving_checks s lent.target) lent (out.SavesOut s lent)
   pub station_load : (saved : List ℕ) (lent : Reception) → Returns (loading_checks saved lent.map lent.buffer) lent (out.LoadsOut saved lent)
@@ -63,9 +63,9 @@ pub record AtBoundary : Type 0 where
   pub opens_it : (number l : ℕ) (lent left : Lent) (r : ℕ) → out.OpensOut l lent r left → r ≡ 0
       → reception_in number l left ≡ opened number l lent.map lent.buffer
   pub takes_in : (number l : ℕ) (frame : List ℕ) (lent left : out.Counted) (r : ℕ) → out.TakesOut number l frame lent r left
-      → out.lentTo number l left ≡ taken_frame (out.lentTo number l lent) frame
+      → out.lent_to number l left ≡ taken_frame (out.lent_to number l lent) frame
   pub joins_in : (number l : ℕ) (t : Reception) (lent left : out.Counted) (r : ℕ) → out.JoinsOut number l t lent r left
-      → out.lentTo number l left ≡ joined (out.lentTo number l lent) t
+      → out.lent_to number l left ≡ joined (out.lent_to number l lent) t
   pub saves_it : (s : Reception) (lent left : out.Sized) (r : ℕ) → out.SavesOut s lent r left → r ≡ 0 → take left.size left.target ≡ record_of s
   pub loads_it : (saved : List ℕ) (lent left : Reception) (r : ℕ) → out.LoadsOut saved lent r left → r ≡ 0
       → left ≡ loaded saved lent.map lent.buffer
