@@ -35,14 +35,14 @@ returns-then-p-k c =
     let m = c.args.map.now in
     let l = c.loop-p in
     stops m (λ i. (c.type_inv.map i).fits) c.args.side l.p _ (rest m c.args.side l.p _ c.side_of.ensures) c.lowest_set-k.result
-    c.lowest_set-k.ensures c.args.from l.invariant.0 l.invariant.2 c.args.n c.if-k-lt8.true c.if-p-k.true
+    c.lowest_set-k.ensures c.args.from l.invariant.0 l.invariant.2 c.args.n (omega arith) c.if-p-k.true
 
 pub returns-else-p-k : goal.returns-else-p-k
 returns-else-p-k c =
     let m = c.args.map.now in
     let l = c.loop-p in
     stops_short m (λ i. (c.type_inv.map i).fits) c.args.side l.p _ (rest m c.args.side l.p _ c.side_of.ensures) c.lowest_set-k.result
-    c.lowest_set-k.ensures c.args.from l.invariant.0 l.invariant.2 c.args.n c.if-k-lt8.true (omega arith) (omega arith)
+    c.lowest_set-k.ensures c.args.from l.invariant.0 l.invariant.2 c.args.n (omega arith) (omega arith) (omega arith)
 
 pub overflow_mul-p : goal.overflow_mul-p
 overflow_mul-p c =
