@@ -275,11 +275,14 @@ fn arranged(page: &str) -> Vec<String> {
     faults
 }
 
-// All sources in a folder, below a name.
+// All sources in a folder, below a name; what a check leaves in `out` is none.
 fn read(folder: &Path, below: &str, sources: &mut Sources) {
     for file in fs::read_dir(folder).expect("a folder of sources") {
         let path = file.expect("a source").path();
         let name = format!("{below}{}", path.file_name().expect("a name").to_string_lossy());
+        if path.is_dir() && name.ends_with("/out") {
+            continue;
+        }
         if path.is_dir() {
             read(&path, &format!("{name}/"), sources);
         } else {

@@ -78,7 +78,8 @@ pub fn take(
     if l - piece.len() < at {
         return Added::Refused(10);
     }
-    if !runs::piece_agrees(map, buffer, at, piece) {
+    let agrees = runs::piece_agrees(map, buffer, at, piece);
+    if !agrees {
         return Added::Refused(11);
     }
     Added::Accepted(runs::put_piece(map, buffer, at, piece))

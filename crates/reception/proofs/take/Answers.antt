@@ -72,16 +72,16 @@ returns-then-l-piece-2 c =
     let room : short_space s.length s.map s.buffer ≡ false = sym c.short.ensures ∙ c.if-short.false in
     refuses s x 10 (takes_10 s x right room c.if-number-piece_number.false (omega arith))
 
-pub returns-then-not-piece_agrees : goal.returns-then-not-piece_agrees
-returns-then-not-piece_agrees c =
+pub returns-then-not-agrees : goal.returns-then-not-agrees
+returns-then-not-agrees c =
     let s = reception c.args.number c.args.length c.args.map.now c.args.buffer.now in
     let x = data_of c.args.piece_number c.args.offset c.args.piece.now in
     let right : wrong_length s.length ≡ false = sym c.wrong_length.ensures ∙ c.if-wrong_length.false in
     let room : short_space s.length s.map s.buffer ≡ false = sym c.short.ensures ∙ c.if-short.false in
     let fits : x.offset + length x.bytes ≤ s.length = omega arith in
-    let told : agrees s (of_piece x) ≡ c.piece_agrees.result =
-    agrees_told _ (within s x right room fits) s.map s.buffer (of_piece x) c.piece_agrees.result c.piece_agrees.ensures in
-    refuses s x 11 (takes_11 s x right room c.if-number-piece_number.false fits (ap not (told ∙ c.if-not-piece_agrees.true)))
+    let told : agrees s (of_piece x) ≡ c.piece_agrees-agrees.result =
+    agrees_told _ (within s x right room fits) s.map s.buffer (of_piece x) c.piece_agrees-agrees.result c.piece_agrees-agrees.ensures in
+    refuses s x 11 (takes_11 s x right room c.if-number-piece_number.false fits (ap not (told ∙ c.if-not-agrees.true)))
 
 pub returns : goal.returns
 returns c =
@@ -93,7 +93,7 @@ returns c =
     let lies = within s x right room fits in
     let w = enough_space s.length s.map s.buffer room in
     let agree : agrees s (of_piece x) ≡ true =
-    agrees_told _ lies s.map s.buffer (of_piece x) c.piece_agrees.result c.piece_agrees.ensures ∙ c.if-not-piece_agrees.false in
+    agrees_told _ lies s.map s.buffer (of_piece x) c.piece_agrees-agrees.result c.piece_agrees-agrees.ensures ∙ c.if-not-agrees.false in
     let stored = when_inside _ s.map s.buffer (of_piece x) _ lies _ _ _ c.put_piece.ensures in
     adds_counted s (of_piece x) (taking s x) _ _ _ _ (takes s x right room c.if-number-piece_number.false fits (ap not agree)) stored.counts
     stored.leaves_map (stored.leaves_buffer ∙ piece_stored s.map s.buffer x.offset x.bytes agree (omega (arith, w, fits)))

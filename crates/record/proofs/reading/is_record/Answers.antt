@@ -2,6 +2,7 @@
 -- Assumes nothing.
 use mathlib.Core.Path.{◌≡◌, sym, ◌∙◌}
 use mathlib.Core.Bool.{true, false}
+use native.Mathlib.Omega.{arith}
 use lib.ListN.{length}
 use Rattle.reception.specs.Reception.{wrong_length}
 use Rattle.record.specs.Record.{record_length}
@@ -16,24 +17,24 @@ returns-then-wrong_length c =
 pub returns-then-saved-record_length : goal.returns-then-saved-record_length
 returns-then-saved-record_length c =
     let right : wrong_length c.args.l ≡ false = sym c.wrong_length.ensures ∙ c.if-wrong_length.false in
-    fails_size c.args.saved.now c.args.l c.requires right (λ e. c.if-saved-record_length.true (e ∙ sym c.record_length.ensures))
+    fails_size c.args.saved.now c.args.l c.requires right (λ e. omega arith)
 
 pub returns-then-not-fields_right : goal.returns-then-not-fields_right
 returns-then-not-fields_right c =
     let right : wrong_length c.args.l ≡ false = sym c.wrong_length.ensures ∙ c.if-wrong_length.false in
-    let long : length c.args.saved.now ≡ record_length c.args.l = c.if-saved-record_length.false ∙ c.record_length.ensures in
+    let long : length c.args.saved.now ≡ record_length c.args.l = omega arith in
     fails_fields c.args.saved.now c.args.l c.requires right long (sym c.fields_right.ensures ∙ c.if-not-fields_right.true)
 
 pub spare_clear-requires : goal.spare_clear-requires
 spare_clear-requires c =
     let right : wrong_length c.args.l ≡ false = sym c.wrong_length.ensures ∙ c.if-wrong_length.false in
-    let long : length c.args.saved.now ≡ record_length c.args.l = c.if-saved-record_length.false ∙ c.record_length.ensures in
+    let long : length c.args.saved.now ≡ record_length c.args.l = omega arith in
     map_enough c.args.saved.now c.args.l c.requires right long c.map_by-map.result.now c.map_by-map.ensures
 
 pub returns-then-not-spare_clear : goal.returns-then-not-spare_clear
 returns-then-not-spare_clear c =
     let right : wrong_length c.args.l ≡ false = sym c.wrong_length.ensures ∙ c.if-wrong_length.false in
-    let long : length c.args.saved.now ≡ record_length c.args.l = c.if-saved-record_length.false ∙ c.record_length.ensures in
+    let long : length c.args.saved.now ≡ record_length c.args.l = omega arith in
     let fields : fields_right c.args.l c.args.saved.now ≡ true = sym c.fields_right.ensures ∙ c.if-not-fields_right.false in
     fails_spare c.args.saved.now c.args.l c.requires right long fields c.map_by-map.result.now c.map_by-map.ensures
     (sym c.spare_clear.ensures ∙ c.if-not-spare_clear.true)
@@ -41,14 +42,14 @@ returns-then-not-spare_clear c =
 pub unheld_clear-requires : goal.unheld_clear-requires
 unheld_clear-requires c =
     let right : wrong_length c.args.l ≡ false = sym c.wrong_length.ensures ∙ c.if-wrong_length.false in
-    let long : length c.args.saved.now ≡ record_length c.args.l = c.if-saved-record_length.false ∙ c.record_length.ensures in
+    let long : length c.args.saved.now ≡ record_length c.args.l = omega arith in
     buffer_enough c.args.saved.now c.args.l c.requires right long c.map_by-map.result.now c.buffer_by.result.now
     c.map_by-map.ensures c.buffer_by.ensures
 
 pub returns : goal.returns
 returns c =
     let right : wrong_length c.args.l ≡ false = sym c.wrong_length.ensures ∙ c.if-wrong_length.false in
-    let long : length c.args.saved.now ≡ record_length c.args.l = c.if-saved-record_length.false ∙ c.record_length.ensures in
+    let long : length c.args.saved.now ≡ record_length c.args.l = omega arith in
     let fields : fields_right c.args.l c.args.saved.now ≡ true = sym c.fields_right.ensures ∙ c.if-not-fields_right.false in
     c.unheld_clear.ensures
     ∙ by_unheld c.args.saved.now c.args.l c.requires right long fields c.map_by-map.result.now c.map_by-map.ensures
