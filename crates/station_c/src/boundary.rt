@@ -2,7 +2,7 @@
 //
 // Each function returns 0, or the number of the reason, and tells its values through numbers that it was
 // lent; a refusal leaves these, and every lent byte, as they were. The last three refuse nothing, and return
-// what their operations answer. The contracts cite `specs/Exports.antt`.
+// what their operations answer. The contracts cite `specs/Exports.antt` of `station`.
 ghost use Rattle.std.specs.Prelude.{◌≡◌};
 ghost use Rattle.remainder.specs.Remainder.{remainder_of};
 ghost use Rattle.reception.specs.Held.{held_of, held_count};

@@ -2,8 +2,8 @@
 //
 // A function returns as those of `boundary.rt` do, and tells what it read at once, as numbers in arrays that it was lent:
 // `told` has the fields of a frame in the order of their bytes, and `values` those of a file header in the order of
-// its items' ids. An address is one number (`addresses.rt`), and so are a name and an extension, of their bytes, least
-// significant byte first. The contracts cite `specs/FrameExports.antt`.
+// its items' ids. An address is one number (`addresses.rt` of `station`), and so are a name and an extension, of their bytes, least
+// significant byte first. The contracts cite `specs/FrameExports.antt` of `station`.
 ghost use Rattle.station.specs.FrameExports.{PieceOut, EntryOut, HeaderOut};
 
 // Reads a frame as a file piece, as `frame::read_piece`, and tells destination, source, number, type, offset, and where

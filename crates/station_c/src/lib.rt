@@ -1,4 +1,4 @@
-// The station for a host program: the static library `libstation.a` has the functions below under these names. Each is a call of the
+// The station for a host program: the static library, which `host/library` calls `libstation.a`, has the functions below under these names. Each is a call of the
 // function of the same name in `station`, with the same promise.
 #![tactic(auto)]
 

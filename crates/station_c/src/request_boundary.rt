@@ -1,7 +1,7 @@
 // The boundary to a host program: requests, written and read.
 //
 // A function returns and tells as those of `boundary.rt` and `frame_boundary.rt` do; an address is one number
-// (`addresses.rt`). The contracts cite `specs/RequestExports.antt`.
+// (`addresses.rt` of `station`). The contracts cite `specs/RequestExports.antt` of `station`.
 ghost use Rattle.station.specs.RequestExports.{head_told, FillsOut, StartsOut, RequestOut, HoleOut};
 
 // Writes a request for holes, as `request::write_fill`, and tells how many it lists and the end of the last: 2,
