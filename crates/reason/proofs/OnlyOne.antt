@@ -1,42 +1,69 @@
--- No second answer meets a promise: one law for every promise that is an equation, and one for every writer.
+-- No second answer meets a promise: one law for every promise that is an equation, one for every answer, and one for every writer.
 -- Assumes nothing.
 use mathlib.Core.Path.{◌≡◌, refl, sym, ap, ◌∙◌}
-use mathlib.Core.List.{List}
+use mathlib.Core.List.{List, [], ◌∷◌}
+use lib.ListN.{get_or}
 use Prim.Native.Nat.{ℕ}
-use Rattle.reason.specs.declared.Outcome.{Outcome}
-use Rattle.reason.specs.declared.Outcome.TheVariants.{Accepted, Refused}
-use Rattle.reason.specs.Answer.{Answer, accepted, refused, outcome, Writes, WritesAndTells}
+use Rattle.std.specs.Prelude.{Result, Ok, Err}
+use Rattle.reason.specs.declared.Reason.{Reason}
+use Rattle.reason.specs.declared.Reason.TheVariants.{Short, Address, Control, Protocol, Flags, Check, Size, Header, OtherFile, Beyond, Differs, Space, Record, NotWhole, NoHole}
+use Rattle.reason.specs.Reasons.{number_of}
+use Rattle.reason.specs.Answer.{Answer, accepted, refused, answer_of, Writes, WritesAndTells}
 
 -- two results that are both what a definition says are the same
 pub only_one : {A : Type 0} {v : A} (p q : A) → p ≡ v → q ≡ v → p ≡ q
 only_one p q d e = d ∙ sym e
 
--- Two answers of an enum whose meanings are both what a definition says are the same, since no two cases have one meaning:
--- `case` gives each meaning's case back.
-pub only_one_meant : {X A : Type 0} {v : A} (meaning : X → A) (case : A → X) → ((x : X) → case (meaning x) ≡ x) → (p q : X) → meaning p ≡ v
-    → meaning q ≡ v → p ≡ q
-only_one_meant meaning case back p q d e = sym (back p) ∙ ap case (d ∙ sym e) ∙ back q
+-- all reasons by their numbers, and the one with a number
+reasons : List Reason
+reasons =
+    Short ∷ Address ∷ Control ∷ Protocol ∷ Flags ∷ Check ∷ Size ∷ Header ∷ OtherFile ∷ Beyond ∷ Differs ∷ Space ∷ Record ∷ NotWhole ∷ NoHole ∷ []
 
-outcome_case : Answer Unit → Outcome
-outcome_case (accepted a) = Accepted
-outcome_case (refused n) = Refused n
+reason_with : ℕ → Reason
+reason_with n = get_or (Short ∷ reasons) n Short
 
-outcome_back : (r : Outcome) → outcome_case (outcome r) ≡ r
-unfolding outcome_case
-outcome_back Accepted = refl
-outcome_back (Refused n) = refl
+reason_back : (r : Reason) → reason_with (number_of r) ≡ r
+unfolding reason_with reasons
+reason_back Short = refl
+reason_back Address = refl
+reason_back Control = refl
+reason_back Protocol = refl
+reason_back Flags = refl
+reason_back Check = refl
+reason_back Size = refl
+reason_back Header = refl
+reason_back OtherFile = refl
+reason_back Beyond = refl
+reason_back Differs = refl
+reason_back Space = refl
+reason_back Record = refl
+reason_back NotWhole = refl
+reason_back NoHole = refl
 
-pub one_outcome : {v : Answer Unit} (r q : Outcome) → outcome r ≡ v → outcome q ≡ v → r ≡ q
-one_outcome r q d e = only_one_meant outcome outcome_case outcome_back r q d e
+-- no two reasons have one number
+pub one_reason : (r q : Reason) → number_of r ≡ number_of q → r ≡ q
+one_reason r q e = sym (reason_back r) ∙ ap reason_with e ∙ reason_back q
+
+-- no two results have one meaning: each meaning gives its result back
+result_of : {A : Type 0} → Answer A → Result A Reason
+result_of (accepted a) = Ok a
+result_of (refused n) = Err (reason_with n)
+
+result_back : {A : Type 0} (r : Result A Reason) → result_of (answer_of r) ≡ r
+unfolding result_of
+result_back (Ok a) = refl
+result_back (Err reason) = ap Err (reason_back reason)
+
+-- two results whose meanings are both what a definition says are the same
+pub only_one_answer : {A : Type 0} {v : Answer A} (r q : Result A Reason) → answer_of r ≡ v → answer_of q ≡ v → r ≡ q
+only_one_answer r q d e = sym (result_back r) ∙ ap result_of (d ∙ sym e) ∙ result_back q
 
 -- a writer's answer and the bytes that it leaves are fixed
-pub only_one_written : (lent : List ℕ) (m : Answer (List ℕ)) (r q : Outcome) (left also : List ℕ) → Writes lent m r left
+pub only_one_written : (lent : List ℕ) (m : Answer (List ℕ)) (r q : Result Unit Reason) (left also : List ℕ) → Writes lent m r left
     → Writes lent m q also → (r ≡ q) × (left ≡ also)
-only_one_written lent m r q left also d e = (one_outcome r q d.answers e.answers, only_one left also d.bytes e.bytes)
+only_one_written lent m r q left also d e = (only_one_answer r q d.answers e.answers, only_one left also d.bytes e.bytes)
 
--- .. and so are those of one that tells values, where no two cases of its answer have one meaning
-pub only_one_told : {X A : Type 0} (meaning : X → Answer A) (case : Answer A → X) → ((x : X) → case (meaning x) ≡ x) → (lent : List ℕ) (answer : Answer A)
-    (made : A → List ℕ) (r q : X) (left also : List ℕ) → WritesAndTells lent answer made (meaning r) left → WritesAndTells lent answer made (meaning q) also
-    → (r ≡ q) × (left ≡ also)
-only_one_told meaning case back lent answer made r q left also d e =
-    (only_one_meant meaning case back r q d.answers e.answers, only_one left also d.bytes e.bytes)
+-- .. and so are those of one that tells values
+pub only_one_told : {A : Type 0} (lent : List ℕ) (told : Answer A) (made : A → List ℕ) (r q : Result A Reason) (left also : List ℕ)
+    → WritesAndTells lent told made (answer_of r) left → WritesAndTells lent told made (answer_of q) also → (r ≡ q) × (left ≡ also)
+only_one_told lent told made r q left also d e = (only_one_answer r q d.answers e.answers, only_one left also d.bytes e.bytes)
