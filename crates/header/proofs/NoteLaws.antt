@@ -13,7 +13,7 @@ use borrow.Author.Tests.{eqb-true, eqb-false}
 use Rattle.reason.proofs.Bools.{and_right}
 use Rattle.octets.specs.Runs.{put_in}
 use Rattle.header.specs.declared.Meaning.{Meaning}
-use Rattle.header.specs.declared.Meaning.TheVariants.{FileName, FileExtension, HeaderSum, UploadTime}
+use Rattle.header.specs.declared.Meaning.TheVariants.{HeaderSum, UploadTime}
 use Rattle.header.specs.declared.Item.{Item}
 use Rattle.header.specs.declared.Cursor.{Cursor}
 use Rattle.header.specs.declared.Step.{Step}
@@ -215,11 +215,7 @@ module _ (s : List ℕ) (end : ℕ) (counts sizes starts : List ℕ) (noted : No
   unfolding header_sum decision_of known_items mandatory_items
   sum_by_notes at is = ap₂ (λ (e a : ℕ). sum_of (put_in (take e s) a (0 ∷ 0 ∷ [])) % 65536) noted.reaches (is ∙ noted.started 0x0A (omega arith))
 
-  -- the items that were met are in the header, and item 0A has two bytes
-  pub names_in_header : (note_of starts FileName ≤ length s) × (note_of starts FileExtension ≤ length s)
-  unfolding decision_of known_items mandatory_items
-  names_in_header = (omega (arith, noted.within 0x02 (omega arith), noted.inside), omega (arith, noted.within 0x03 (omega arith), noted.inside))
-
+  -- item 0A, which has two bytes, is in the header
   pub sum_in_header : every_pair (once (by_id counts) (by_id sizes)) mandatory ≡ true → note_of starts HeaderSum + 2 ≤ end
   unfolding decision_of known_items mandatory_items
   sum_in_header e =

@@ -1,18 +1,18 @@
 -- No second answer meets a promise of this crate.
 -- Assumes nothing.
-use mathlib.Core.Path.{◌≡◌, refl, ap}
+use mathlib.Core.Path.{◌≡◌, ap}
 use mathlib.Core.List.{List}
 use Prim.Native.Nat.{ℕ}
-use Rattle.reason.specs.Answer.{Answer, accepted, refused}
-use Rattle.reason.proofs.OnlyOne.{only_one, only_one_meant}
+use Rattle.std.specs.Prelude.{Result}
+use Rattle.reason.specs.declared.Reason.{Reason}
+use Rattle.reason.specs.Answer.{answer_of}
+use Rattle.reason.proofs.OnlyOne.{only_one, only_one_answer}
 use Rattle.header.specs.declared.Cursor.{Cursor}
 use Rattle.header.specs.declared.Decision.{Decision}
 use Rattle.header.specs.declared.Step.{Step}
 use Rattle.header.specs.declared.Header.{Header}
-use Rattle.header.specs.declared.HeaderRead.{HeaderRead}
-use Rattle.header.specs.declared.HeaderRead.TheVariants.{Accepted, Refused}
 use Rattle.header.specs.Items.{decision_of, step_at}
-use Rattle.header.specs.Header.{header_answer, read_header}
+use Rattle.header.specs.Header.{read_header}
 use Rattle.header.specs.Data.{data_of}
 
 -- `decide`
@@ -36,15 +36,6 @@ pub only_one_item : (id : ℕ) (s r q : List ℕ) → r ≡ data_of id s → q �
 only_one_item id s r q = only_one r q
 
 -- `read_header`
-header_case : Answer Header → HeaderRead
-header_case (accepted h) = Accepted h
-header_case (refused n) = Refused n
-
-header_back : (r : HeaderRead) → header_case (header_answer r) ≡ r
-unfolding header_case
-header_back (Accepted h) = refl
-header_back (Refused n) = refl
-
-pub only_one_header : (s : List ℕ) (number : ℕ) (r q : HeaderRead) → header_answer r ≡ read_header s number
-    → header_answer q ≡ read_header s number → r ≡ q
-only_one_header s number r q = only_one_meant header_answer header_case header_back r q
+pub only_one_header : (s : List ℕ) (number : ℕ) (r q : Result Header Reason) → answer_of r ≡ read_header s number
+    → answer_of q ≡ read_header s number → r ≡ q
+only_one_header s number r q = only_one_answer r q

@@ -1,18 +1,13 @@
 -- When a file header is accepted, and the values that it then gives (01, "File header").
 -- Assumes nothing.
-use Rattle.std.specs.Prelude.{Bool, true, not, cond, ◌&&◌, List, [], ◌∷◌, ℕ, ◌+◌, ◌%◌, leb, eqb, take}
-use Rattle.reason.specs.Answer.{Answer, accepted, refused}
+use Rattle.std.specs.Prelude.{Bool, true, not, cond, ◌&&◌, List, [], ◌∷◌, ℕ, ◌+◌, ◌%◌, leb, eqb, take, Option, Some, None}
+use Rattle.reason.specs.Answer.{Answer}
 use Rattle.reason.specs.Order.{Check, check, first_of}
 use Rattle.octets.specs.Numbers.{byte_at, number_at}
+use Rattle.octets.specs.Values.{values_from}
 use Rattle.octets.specs.Runs.{put_in}
 use Rattle.header.specs.declared.Pair.{Pair}
-use Rattle.header.specs.declared.Name.{Name}
-use Rattle.header.specs.declared.Extension.{Extension}
-use Rattle.header.specs.declared.Upload.{Upload}
-use Rattle.header.specs.declared.Upload.TheVariants.{Time, Absent}
 use Rattle.header.specs.declared.Header.{Header}
-use Rattle.header.specs.declared.HeaderRead.{HeaderRead}
-use Rattle.header.specs.declared.HeaderRead.TheVariants.{Accepted, Refused}
 use Rattle.header.specs.Items.{Known, known, mandatory_items, items, count_of, start_of, size_of, comes_to_end, behind_end}
 
 -- the first two bytes are AA 55
@@ -55,32 +50,16 @@ header_sum s = sum_of (put_in (take (header_length s) s) (start_of (items s) 0x0
 abbrev pub values_agree : Header → ℕ → ℕ → Bool
 values_agree h sum number = eqb h.headersum sum && eqb h.number number && leb h.size h.body && leb h.body h.length
 
--- the bytes of items 02 and 03 in their order
-abbrev pub name_at : List ℕ → ℕ → Name
-name_at s at = record {
-  c0 = byte_at s at;
-  c1 = byte_at s (at + 1);
-  c2 = byte_at s (at + 2);
-  c3 = byte_at s (at + 3);
-  c4 = byte_at s (at + 4);
-  c5 = byte_at s (at + 5);
-  c6 = byte_at s (at + 6);
-  c7 = byte_at s (at + 7);
-}
+-- the bytes of items 02 and 03 in their order, which start at the place
+abbrev pub name_at : List ℕ → ℕ → List ℕ
+name_at s at = values_from (byte_at s) at 8
 
-abbrev pub extension_at : List ℕ → ℕ → Extension
-extension_at s at = record { c0 = byte_at s at; c1 = byte_at s (at + 1); c2 = byte_at s (at + 2) }
-
--- the bytes of a name and of an extension, in their order
-abbrev pub name_bytes : Name → List ℕ
-name_bytes n = n.c0 ∷ n.c1 ∷ n.c2 ∷ n.c3 ∷ n.c4 ∷ n.c5 ∷ n.c6 ∷ n.c7 ∷ []
-
-abbrev pub extension_bytes : Extension → List ℕ
-extension_bytes e = e.c0 ∷ e.c1 ∷ e.c2 ∷ []
+abbrev pub extension_at : List ℕ → ℕ → List ℕ
+extension_at s at = values_from (byte_at s) at 3
 
 -- item 12 where it is present; count is how many items 12 there are, and at is where the last one's data start
-abbrev pub upload_by : ℕ → ℕ → List ℕ → Upload
-upload_by count at s = cond (eqb count 0) Absent (Time (number_at 4 s at))
+abbrev pub upload_by : ℕ → ℕ → List ℕ → Option ℕ
+upload_by count at s = cond (eqb count 0) None (Some (number_at 4 s at))
 
 -- the values of all items of a header of so many bytes; count and start tell of each id how many items have it, and where their
 -- data start
@@ -128,8 +107,3 @@ header_checks s number = check (not (keeps_rules s number)) 8 ∷ []
 -- reading the header that s starts with, of the file with the number
 unfoldable pub read_header : List ℕ → ℕ → Answer Header
 read_header s number = first_of (header_checks s number) (header_of s)
-
--- the paper's number and values for each case of `read_header`'s answer
-abbrev pub header_answer : HeaderRead → Answer Header
-header_answer (Accepted h) = accepted h
-header_answer (Refused n) = refused n

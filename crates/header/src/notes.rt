@@ -25,7 +25,7 @@ const MANDATORY: [Pair; 11] = [
 ];
 
 // What a walk over all items comes to: the end item, and the place behind it; or items that break off.
-#[derive(Clone, Copy)]
+#[derive(Clone, Copy, Debug, PartialEq, Eq)]
 pub(crate) enum Walked {
     Ended(usize),
     Broken,

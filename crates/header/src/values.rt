@@ -3,12 +3,11 @@
 ghost use Rattle.std.specs.Prelude.{◌≡◌, [], ◌∷◌, ◌+◌, ◌%◌, ◌≤◌, ◌<◌, length};
 ghost use Rattle.octets.specs.Numbers.{byte_at, number_at};
 ghost use Rattle.octets.specs.Runs.{put_in};
-ghost use Rattle.header.specs.Header.{begins_right, sum_of, values_agree, name_at, extension_at, upload_by, values_by};
+ghost use Rattle.header.specs.Header.{begins_right, sum_of, values_agree, upload_by, values_by};
 ghost use Rattle.header.specs.Notes.{note_of, by_id};
-ghost use Rattle.header.specs.declared.Meaning.TheVariants.{FileName, FileExtension};
 
 use super::notes::{PLACES, noted};
-use super::{Extension, Header, Meaning, Name, Upload};
+use super::{Header, Meaning};
 
 // Whether s begins with AA 55.
 pub(crate) fn begins(s: &[u8]) -> bool
@@ -24,12 +23,11 @@ pub(crate) fn values(
     counts: &[usize; PLACES],
     starts: &[usize; PLACES],
 ) -> Header
-    requires { (note_of starts.now FileName ≤ length s.now) × (note_of starts.now FileExtension ≤ length s.now) }
     ensures { result ≡ values_by (by_id counts.now) (by_id starts.now) end s.now }
 {
     let number = four(s, starts, Meaning::FileNumber);
-    let name = name_at(s, noted(starts, Meaning::FileName));
-    let extension = extension_at(s, noted(starts, Meaning::FileExtension));
+    let name = octets::array(s, noted(starts, Meaning::FileName));
+    let extension = octets::array(s, noted(starts, Meaning::FileExtension));
     let length = four(s, starts, Meaning::FileLength);
     let created = four(s, starts, Meaning::CreationTime);
     let modified = four(s, starts, Meaning::ModificationTime);
@@ -101,14 +99,14 @@ fn wide(b: u8) -> u32
 fn four(s: &[u8], starts: &[usize; PLACES], meaning: Meaning) -> u32
     ensures { result ≡ number_at 4 s.now (note_of starts.now meaning) }
 {
-    octets::number4(s, noted(starts, meaning))
+    octets::number::<4>(s, noted(starts, meaning)) as u32
 }
 
 // Its number of two bytes.
 fn two(s: &[u8], starts: &[usize; PLACES], meaning: Meaning) -> u16
     ensures { result ≡ number_at 2 s.now (note_of starts.now meaning) }
 {
-    octets::number2(s, noted(starts, meaning))
+    octets::number::<2>(s, noted(starts, meaning)) as u16
 }
 
 // Its one byte.
@@ -118,42 +116,13 @@ fn one(s: &[u8], starts: &[usize; PLACES], meaning: Meaning) -> u8
     octets::byte(s, noted(starts, meaning))
 }
 
-// The eight bytes of s from a place on, as a name.
-fn name_at(s: &[u8], at: usize) -> Name
-    requires { at ≤ length s.now }
-    ensures { result ≡ name_at s.now at }
-{
-    Name {
-        c0: octets::byte(s, at),
-        c1: octets::byte(s, at + 1),
-        c2: octets::byte(s, at + 2),
-        c3: octets::byte(s, at + 3),
-        c4: octets::byte(s, at + 4),
-        c5: octets::byte(s, at + 5),
-        c6: octets::byte(s, at + 6),
-        c7: octets::byte(s, at + 7),
-    }
-}
-
-// The three bytes of s from a place on, as an extension.
-fn extension_at(s: &[u8], at: usize) -> Extension
-    requires { at ≤ length s.now }
-    ensures { result ≡ extension_at s.now at }
-{
-    Extension {
-        c0: octets::byte(s, at),
-        c1: octets::byte(s, at + 1),
-        c2: octets::byte(s, at + 2),
-    }
-}
-
 // Item 12, of which `count` were met and the last one's data start at a place.
-fn upload_at(s: &[u8], count: usize, at: usize) -> Upload
+fn upload_at(s: &[u8], count: usize, at: usize) -> Option<u32>
     ensures { result ≡ upload_by count at s.now }
 {
     if count == 0 {
-        Upload::Absent
+        None
     } else {
-        Upload::Time(octets::number4(s, at))
+        Some(octets::number::<4>(s, at) as u32)
     }
 }

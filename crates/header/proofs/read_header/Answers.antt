@@ -12,7 +12,7 @@ use Rattle.header.specs.Items.{items, count_of, comes_to_end}
 use Rattle.header.specs.Header.{begins_right, mandatory, every_pair, once, sum_of, values_agree, values_by, header_of, all_once, upload_right, values_right, keeps_rules, read_header}
 use Rattle.header.specs.Rules.{Rules}
 use Rattle.header.specs.Notes.{note_of, by_id, Noted}
-use Rattle.header.proofs.NoteLaws.{once_by_notes, values_by_notes, uploads_by_notes, sum_by_notes, names_in_header, sum_in_header}
+use Rattle.header.proofs.NoteLaws.{once_by_notes, values_by_notes, uploads_by_notes, sum_by_notes, sum_in_header}
 use Rattle.header.proofs.HeaderLaws.{reads_header}
 use Rattle.header.proofs.RulesKept.{begins_kept, once_kept, values_kept, refuses_if}
 use Rattle.header.proofs.read_header.Goals as goal
@@ -77,9 +77,6 @@ returns-then-not-all_once c =
 pub returns-then-noted-gt1 : goal.returns-then-noted-gt1
 returns-then-noted-gt1 c =
     twice c.args.s.now c.args.number _ _ _ _ (c.walk.ensures.ended _ c.in-Ended.is) _ c.noted.ensures c.if-noted-gt1.true
-
-pub values-header-requires : goal.values-header-requires
-values-header-requires c = names_in_header _ _ _ _ _ (c.walk.ensures.ended _ c.in-Ended.is)
 
 pub sum_but-sum-requires : goal.sum_but-sum-requires
 sum_but-sum-requires c =

@@ -48,25 +48,25 @@ returns-then-s-start c = sym (past c.args.s.now c.args.self.at c.if-s-start.true
 
 pub returns-then-not-allows : goal.returns-then-not-allows
 returns-then-not-allows c =
-    let read : Read c.args.s.now c.args.self.at c.number2-id.result c.byte-size.result = record { named = c.number2-id.ensures; sized = c.byte-size.ensures; room = c.if-s-start.false } in
-    let judged : c.allows.result ≡ allows_size (decision_of c.number2-id.result).size c.byte-size.result = c.allows.ensures ∙ ap (λ (d : Decision). allows_size d.size c.byte-size.result) c.decide-decision.ensures in
+    let read : Read c.args.s.now c.args.self.at c.number-id.result c.byte-size.result = record { named = c.number-id.ensures.value; sized = c.byte-size.ensures; room = c.if-s-start.false } in
+    let judged : c.allows.result ≡ allows_size (decision_of c.number-id.result).size c.byte-size.result = c.allows.ensures ∙ ap (λ (d : Decision). allows_size d.size c.byte-size.result) c.decide-decision.ensures in
     not_allowed _ _ _ _ read (sym judged ∙ c.if-not-allows.true)
 
 pub returns-then-id-eq0 : goal.returns-then-id-eq0
 returns-then-id-eq0 c =
-    let read : Read c.args.s.now c.args.self.at c.number2-id.result c.byte-size.result = record { named = c.number2-id.ensures; sized = c.byte-size.ensures; room = c.if-s-start.false } in
-    let judged : c.allows.result ≡ allows_size (decision_of c.number2-id.result).size c.byte-size.result = c.allows.ensures ∙ ap (λ (d : Decision). allows_size d.size c.byte-size.result) c.decide-decision.ensures in
+    let read : Read c.args.s.now c.args.self.at c.number-id.result c.byte-size.result = record { named = c.number-id.ensures.value; sized = c.byte-size.ensures; room = c.if-s-start.false } in
+    let judged : c.allows.result ≡ allows_size (decision_of c.number-id.result).size c.byte-size.result = c.allows.ensures ∙ ap (λ (d : Decision). allows_size d.size c.byte-size.result) c.decide-decision.ensures in
     end_item _ _ _ _ read (sym judged ∙ c.if-not-allows.false) c.if-id-eq0.true
 
 pub returns-then-s-start-2 : goal.returns-then-s-start-2
 returns-then-s-start-2 c =
-    let read : Read c.args.s.now c.args.self.at c.number2-id.result c.byte-size.result = record { named = c.number2-id.ensures; sized = c.byte-size.ensures; room = c.if-s-start.false } in
-    let judged : c.allows.result ≡ allows_size (decision_of c.number2-id.result).size c.byte-size.result = c.allows.ensures ∙ ap (λ (d : Decision). allows_size d.size c.byte-size.result) c.decide-decision.ensures in
+    let read : Read c.args.s.now c.args.self.at c.number-id.result c.byte-size.result = record { named = c.number-id.ensures.value; sized = c.byte-size.ensures; room = c.if-s-start.false } in
+    let judged : c.allows.result ≡ allows_size (decision_of c.number-id.result).size c.byte-size.result = c.allows.ensures ∙ ap (λ (d : Decision). allows_size d.size c.byte-size.result) c.decide-decision.ensures in
     cut_off _ _ _ _ read (sym judged ∙ c.if-not-allows.false) c.if-id-eq0.false (omega arith)
 
 pub returns : goal.returns
 returns c =
-    let read : Read c.args.s.now c.args.self.at c.number2-id.result c.byte-size.result = record { named = c.number2-id.ensures; sized = c.byte-size.ensures; room = c.if-s-start.false } in
-    let judged : c.allows.result ≡ allows_size (decision_of c.number2-id.result).size c.byte-size.result = c.allows.ensures ∙ ap (λ (d : Decision). allows_size d.size c.byte-size.result) c.decide-decision.ensures in
+    let read : Read c.args.s.now c.args.self.at c.number-id.result c.byte-size.result = record { named = c.number-id.ensures.value; sized = c.byte-size.ensures; room = c.if-s-start.false } in
+    let judged : c.allows.result ≡ allows_size (decision_of c.number-id.result).size c.byte-size.result = c.allows.ensures ∙ ap (λ (d : Decision). allows_size d.size c.byte-size.result) c.decide-decision.ensures in
     whole _ _ _ _ read (sym judged ∙ c.if-not-allows.false) c.if-id-eq0.false (omega arith) _
     (ap (λ (d : Decision). d.meaning) c.decide-decision.ensures)

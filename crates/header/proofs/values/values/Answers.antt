@@ -1,18 +1,16 @@
 -- `header::values::values` meets its contract: each value is read where the notes of its meaning say.
 -- Assumes nothing.
 use Rattle.std.proofs.Common.{◌≡◌, ap, ap₂, ◌∙◌, List, ℕ}
+use Rattle.std.specs.Prelude.{Option}
 use Rattle.octets.specs.Numbers.{byte_at, number_at}
 use Rattle.header.specs.declared.Meaning.TheVariants.{FileNumber, FileName, FileExtension, FileLength, CreationTime, ModificationTime, UpsetFlag, FileType, BodySum, HeaderSum, BodyOffset, UploadTime}
-use Rattle.header.specs.declared.Name.{Name}
-use Rattle.header.specs.declared.Extension.{Extension}
-use Rattle.header.specs.declared.Upload.{Upload}
 use Rattle.header.specs.declared.Header.{Header}
 use Rattle.header.specs.Items.{mandatory_items, known_items, decision_of}
 use Rattle.header.specs.Header.{name_at, extension_at, upload_by, values_by}
 use Rattle.header.specs.Notes.{note_of, by_id}
 use Rattle.header.proofs.values.values.Goals as goal
 
-made : (s : List ℕ) (end : ℕ) (counts starts : List ℕ) (number : ℕ) (name : Name) (extension : Extension) (whole : ℕ) (created : ℕ) (modified : ℕ) (upset : ℕ) (kind : ℕ) (bodysum : ℕ) (headersum : ℕ) (body : ℕ) (upload : Upload)
+made : (s : List ℕ) (end : ℕ) (counts starts : List ℕ) (number : ℕ) (name : List ℕ) (extension : List ℕ) (whole : ℕ) (created : ℕ) (modified : ℕ) (upset : ℕ) (kind : ℕ) (bodysum : ℕ) (headersum : ℕ) (body : ℕ) (upload : Option ℕ)
     → number ≡ number_at 4 s (note_of starts FileNumber)
     → name ≡ name_at s (note_of starts FileName)
     → extension ≡ extension_at s (note_of starts FileExtension)
@@ -34,8 +32,8 @@ returns c =
     let a = c.args in
     made a.s.now a.end a.counts.now a.starts.now _ _ _ _ _ _ _ _ _ _ _ _
     c.four-number.ensures
-    (c.name_at-name.ensures ∙ ap (name_at a.s.now) c.noted.ensures)
-    (c.extension_at-extension.ensures ∙ ap (extension_at a.s.now) c.noted-2.ensures)
+    (c.array-name.ensures ∙ ap (name_at a.s.now) c.noted.ensures)
+    (c.array-extension.ensures ∙ ap (extension_at a.s.now) c.noted-2.ensures)
     c.four-length.ensures
     c.four-created.ensures
     c.four-modified.ensures
