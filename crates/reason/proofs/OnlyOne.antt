@@ -1,48 +1,16 @@
 -- No second answer meets a promise: one law for every promise that is an equation, one for every answer, and one for every writer.
 -- Assumes nothing.
 use mathlib.Core.Path.{◌≡◌, refl, sym, ap, ◌∙◌}
-use mathlib.Core.List.{List, [], ◌∷◌}
-use lib.ListN.{get_or}
+use mathlib.Core.List.{List}
 use Prim.Native.Nat.{ℕ}
 use Rattle.std.specs.Prelude.{Result, Ok, Err}
 use Rattle.reason.specs.declared.Reason.{Reason}
-use Rattle.reason.specs.declared.Reason.TheVariants.{Short, Address, Control, Protocol, Flags, Check, Size, Header, OtherFile, Beyond, Differs, Space, Record, NotWhole, NoHole}
-use Rattle.reason.specs.Reasons.{number_of}
 use Rattle.reason.specs.Answer.{Answer, accepted, refused, answer_of, Writes, WritesAndTells}
+use Rattle.reason.proofs.Reasons.{reason_with, reason_back}
 
 -- two results that are both what a definition says are the same
 pub only_one : {A : Type 0} {v : A} (p q : A) → p ≡ v → q ≡ v → p ≡ q
 only_one p q d e = d ∙ sym e
-
--- all reasons by their numbers, and the one with a number
-reasons : List Reason
-reasons =
-    Short ∷ Address ∷ Control ∷ Protocol ∷ Flags ∷ Check ∷ Size ∷ Header ∷ OtherFile ∷ Beyond ∷ Differs ∷ Space ∷ Record ∷ NotWhole ∷ NoHole ∷ []
-
-reason_with : ℕ → Reason
-reason_with n = get_or (Short ∷ reasons) n Short
-
-reason_back : (r : Reason) → reason_with (number_of r) ≡ r
-unfolding reason_with reasons
-reason_back Short = refl
-reason_back Address = refl
-reason_back Control = refl
-reason_back Protocol = refl
-reason_back Flags = refl
-reason_back Check = refl
-reason_back Size = refl
-reason_back Header = refl
-reason_back OtherFile = refl
-reason_back Beyond = refl
-reason_back Differs = refl
-reason_back Space = refl
-reason_back Record = refl
-reason_back NotWhole = refl
-reason_back NoHole = refl
-
--- no two reasons have one number
-pub one_reason : (r q : Reason) → number_of r ≡ number_of q → r ≡ q
-one_reason r q e = sym (reason_back r) ∙ ap reason_with e ∙ reason_back q
 
 -- no two results have one meaning: each meaning gives its result back
 result_of : {A : Type 0} → Answer A → Result A Reason
