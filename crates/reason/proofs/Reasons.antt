@@ -54,7 +54,7 @@ number_at_place k (suc i) (r ∷ rs) p h = number_at_place (suc k) i rs p.1 (le_
 
 all_numbered : NumberedFrom 1 reasons
 unfolding reasons
-all_numbered = (refl, ((refl, ((refl, ((refl, ((refl, ((refl, ((refl, ((refl, ((refl, ((refl, ((refl, ((refl, ((refl, ((refl, (refl, tt)))))))))))))))
+all_numbered = (refl, (refl, (refl, (refl, (refl, (refl, (refl, (refl, (refl, (refl, (refl, (refl, (refl, (refl, (refl, tt)))))))))))))))
 
 pub number_back : (n : ℕ) → 1 ≤ n → n ≤ 15 → number_of (reason_with n) ≡ n
 unfolding reason_with reasons
