@@ -59,7 +59,7 @@ all_numbered = (refl, (refl, (refl, (refl, (refl, (refl, (refl, (refl, (refl, (r
 pub number_back : (n : ℕ) → 1 ≤ n → n ≤ 15 → number_of (reason_with n) ≡ n
 unfolding reason_with reasons
 number_back zero l h = absurd (not-suc-le-zero l)
-number_back (suc i) l h = number_at_place 1 i reasons all_numbered (le_of_suc-le-suc h) ∙ (omega arith)
+number_back (suc i) l h = number_at_place 1 i reasons all_numbered (omega (arith, h)) ∙ (omega arith)
 
 -- an answer whose number, if it refuses, is one of the numbered reasons is the meaning of a result
 pub answer_met : {A : Type 0} (x : Answer A) → ((n : ℕ) → x ≡ refused n → (1 ≤ n) × (n ≤ 15)) → (r : Result A Reason) × (answer_of r ≡ x)
