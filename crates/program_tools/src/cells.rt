@@ -109,7 +109,7 @@ pub fn turn(bytes: &mut [u8], at: u32, bits: u32)
 pub fn left(c: &[u32; 32], told: [u32; 2], map: &[u8], buffer: &[u8]) -> [u32; 4]
     ensures { result ≡ left_of c.now told map.now buffer.now }
 {
-    let bits = octets::number3(map, 0);
+    let bits = octets::number::<3>(map, 0) as u32;
     let changed = changes(c, first(map, c[M]), first(buffer, c[B]));
     [told[0], told[1], bits, changed]
 }

@@ -6,8 +6,11 @@
 // `specs/Lines.antt`), also where it prints beside that, as `lines::next` and `lines::answered` do.
 #![tactic(auto)]
 
+pub mod cases;
 pub mod cells;
 pub mod faults;
 pub mod lines;
 pub mod made;
+pub mod planted;
 pub mod say;
+pub mod show;

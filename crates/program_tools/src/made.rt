@@ -33,7 +33,7 @@ pub fn with(m: Bytes, at: usize, run: &[u8]) -> Bytes
 pub fn with_number(m: Bytes, at: usize, number: u32) -> Bytes
     ensures { result ≡ with_run m at (bytes_of 4 number) }
 {
-    let run = octets::bytes4(number);
+    let run = octets::bytes::<4>(u64::from(number));
     with(m, at, &run)
 }
 
@@ -41,10 +41,7 @@ pub fn with_number(m: Bytes, at: usize, number: u32) -> Bytes
 pub fn first(bytes: &[u8], n: usize) -> &[u8]
     ensures { result.now ≡ take n bytes.now }
 {
-    if n > bytes.len() {
-        return bytes;
-    }
-    &bytes[..n]
+    bytes.get(..n).unwrap_or(bytes)
 }
 
 // The same of a space that is lent to be written.
@@ -61,10 +58,7 @@ pub fn lent(bytes: &mut [u8], n: usize) -> &mut [u8]
 pub fn behind(bytes: &[u8], from: usize) -> &[u8]
     ensures { result.now ≡ drop from bytes.now }
 {
-    if from > bytes.len() {
-        return &bytes[..0];
-    }
-    &bytes[from..]
+    bytes.get(from..).unwrap_or(&[])
 }
 
 // Turns bits over in the byte at a place, where there is one.
@@ -72,7 +66,7 @@ pub fn turn(bytes: &mut [u8], at: usize, bits: u8)
     ensures { bytes.new ≡ turned bytes.old at bits }
 {
     if at < bytes.len() {
-        bytes[at] = bytes[at] ^ bits;
+        bytes[at] ^= bits;
     }
 }
 
@@ -80,20 +74,9 @@ pub fn turn(bytes: &mut [u8], at: usize, bits: u8)
 pub fn sum(bytes: &[u8]) -> u32
     ensures { result ≡ sum_from 0 bytes.now }
 {
-    let mut total = 0;
-    let mut i = 0;
-    while i < bytes.len() {
-        total = and_byte(total, bytes[i]);
-        i += 1;
-    }
-    total
-}
-
-// The sum with one byte more.
-fn and_byte(total: u32, b: u8) -> u32
-    ensures { result ≡ summed_with total b }
-{
-    summed(total, b as u32)
+    bytes
+        .iter()
+        .fold(0, |total, byte| summed(total, u32::from(*byte)))
 }
 
 // The sum with one number more.
@@ -107,32 +90,21 @@ pub fn summed(total: u32, more: u32) -> u32
 pub fn changed(bytes: &[u8], before: &[u8]) -> u32
     ensures { result ≡ changed_from 0 0 bytes.now before.now }
 {
-    let mut count = 0;
-    let mut i = 0;
-    while i < bytes.len() {
-        count = and_one(count, bytes[i], octets::byte(before, i));
-        i += 1;
+    let mut count = 0u32;
+    for (at, byte) in bytes.iter().enumerate() {
+        if *byte != octets::byte(before, at) {
+            count = count.wrapping_add(1);
+        }
     }
     count
-}
-
-// A count, with one more where two bytes differ.
-fn and_one(count: u32, a: u8, b: u8) -> u32
-    ensures { result ≡ and_one count a b }
-{
-    if a == b {
-        return count;
-    }
-    std::num::wrapping_add_u32(count, 1)
 }
 
 // A map by its first three bytes, as one number, and each other byte.
 pub fn map(bits: u32, rest: u32) -> [u8; 4200]
     ensures { result ≡ map_by bits rest }
 {
-    let three = octets::bytes3(bits);
     let mut map = [(rest % 256) as u8; 4200];
-    octets::put(&mut map, 0, &three);
+    octets::put(&mut map, 0, &octets::bytes::<3>(u64::from(bits)));
     map
 }
 
@@ -157,18 +129,14 @@ pub fn rubbish(at: usize, kind: usize) -> u8
 pub fn map_size(l: u32) -> usize
     ensures { result ≡ (l + 7) / 8 }
 {
-    ((l as usize) + 7) / 8
+    (l as usize).div_ceil(8)
 }
 
 // The five bytes of a hole in a request: the lowest three of its start, and two of its length.
 pub fn hole(start: u32, length: u32) -> [u8; 5]
     ensures { result ≡ bytes_of 3 start ++ bytes_of 2 length }
 {
-    [
-        (start % 256) as u8,
-        (start / 256 % 256) as u8,
-        (start / 256 / 256 % 256) as u8,
-        (length % 256) as u8,
-        (length / 256 % 256) as u8,
-    ]
+    let [low, middle, high] = octets::bytes::<3>(u64::from(start));
+    let [short, long] = octets::bytes::<2>(u64::from(length));
+    [low, middle, high, short, long]
 }

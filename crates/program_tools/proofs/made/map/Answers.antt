@@ -1,5 +1,3 @@
--- `program_tools::made::map` meets its contract: the run is what `bytes3` answers, and the bytes are what `put` leaves.
--- Assumes nothing.
 use Rattle.std.proofs.Common.{◌≡◌, ℕ, ◌%◌, List, replicate, ap, ◌∙◌}
 use Rattle.octets.specs.Numbers.{bytes_of}
 use Rattle.program_tools.specs.Made.{put_where}
@@ -10,4 +8,4 @@ by_run : (s left run other : List ℕ) → left ≡ put_where s 0 run → run �
 by_run s left run other e f = e ∙ ap (put_where s 0) f
 
 pub returns : goal.returns
-returns c = by_run (replicate 4200 (c.args.rest % 256)) _ _ (bytes_of 3 c.args.bits) c.put.ensures.bytes c.bytes3-three.ensures
+returns c = by_run (replicate 4200 (c.args.rest % 256)) _ _ (bytes_of 3 c.args.bits) c.put.ensures.bytes (c.bytes.ensures ∙ ap (bytes_of 3) c.from.ensures)
