@@ -6,17 +6,20 @@ use mathlib.Core.List.{List, [], ◌∷◌}
 use Prim.Native.Nat.{ℕ, ◌+◌, ◌≤◌, ◌<◌}
 use lib.Dec.{eqb}
 use lib.ListN.{length}
+use Rattle.std.specs.Prelude.{Ok, Err}
 use borrow.Author.Tests.{eq-eqb, ne_eqb, le-ltb, lt-ltb}
 use Rattle.reason.specs.Answer.{accepted, refused, leaving}
-use Rattle.reason.specs.declared.Outcome.TheVariants.{Accepted, Refused}
+use Rattle.reason.specs.declared.Reason.{Reason}
+use Rattle.reason.specs.Reasons.{number_of}
 use Rattle.reason.specs.Order.{check, first_of}
-use Rattle.reason.proofs.OrderLaws.{accepted_only_if, skip, stop, none_left}
+use Rattle.reason.proofs.OrderLaws.{accepted_only_if, refused_then, skip, stop, none_left}
 use Rattle.positions.specs.Map.{map_size}
 use Rattle.reception.specs.Reception.{Reception, PieceData, wrong_length, short_space}
 use Rattle.reception.specs.Adding.{of_reception, agrees}
 use Rattle.reception.specs.Opening.{cleared, opening_checks, opening, Opens}
 use Rattle.reception.specs.Taking.{disagrees, taking, taken_new}
 use Rattle.reception.specs.Joining.{joining, joined_new}
+use Rattle.reception.proofs.OfferLaws.{enough_space}
 
 -- ---- opening
 module _ (l : ℕ) (map buffer : List ℕ) where
@@ -38,34 +41,34 @@ pub opens_only_if : (l : ℕ) (map buffer : List ℕ) → opening l map buffer �
 unfolding opening
 opens_only_if l map buffer e = let w = (accepted_only_if (opening_checks l map buffer) tt tt e).0 in (w.0, w.1.0)
 
+-- .. so there is room for the file
+pub opens_in : (l : ℕ) (map buffer : List ℕ) → opening l map buffer ≡ accepted tt → (map_size l ≤ length map) × (l ≤ length buffer)
+opens_in l map buffer e = enough_space l map buffer (opens_only_if l map buffer e).1
+
 -- .. and how `open` meets its promise
 module _ (l : ℕ) (map buffer : List ℕ) where
-  pub opens_refused : (n : ℕ) → opening l map buffer ≡ refused n → Opens l map buffer (Refused n) map buffer
-  opens_refused n e = record {
+  pub opens_refused : (reason : Reason) → opening l map buffer ≡ refused (number_of reason) → Opens l map buffer (Err reason) map buffer
+  opens_refused reason e = record {
     answers = sym e;
     leaves_map = sym (ap (leaving (λ (u : Unit). cleared (map_size l) map) map) e);
     leaves_buffer = sym (ap (leaving (λ (u : Unit). cleared l buffer) buffer) e);
   }
 
   pub opens_accepted : opening l map buffer ≡ accepted tt → (map' buffer' : List ℕ) → map' ≡ cleared (map_size l) map → buffer' ≡ cleared l buffer
-      → Opens l map buffer Accepted map' buffer'
+      → Opens l map buffer (Ok tt) map' buffer'
   opens_accepted e map' buffer' m b = record {
     answers = sym e;
     leaves_map = m ∙ sym (ap (leaving (λ (u : Unit). cleared (map_size l) map) map) e);
     leaves_buffer = b ∙ sym (ap (leaving (λ (u : Unit). cleared l buffer) buffer) e);
   }
 
--- ---- taking
+-- ---- taking: what opening it would be refused for, and then its own reasons
 module _ (s : Reception) (x : PieceData) where
-  pub takes_7 : wrong_length s.length ≡ true → taking s x ≡ refused 7
-  unfolding taking
-  takes_7 e = stop 7 _ _ e
+  pub takes_first : (n : ℕ) → opening s.length s.map s.buffer ≡ refused n → taking s x ≡ refused n
+  unfolding taking opening
+  takes_first n e = refused_then (opening_checks s.length s.map s.buffer) _ tt _ n e
 
   module _ (right : wrong_length s.length ≡ false) where
-    pub takes_12 : short_space s.length s.map s.buffer ≡ true → taking s x ≡ refused 12
-    unfolding taking
-    takes_12 e = skip 7 _ _ right ∙ stop 12 _ _ e
-
     module _ (room : short_space s.length s.map s.buffer ≡ false) where
       pub takes_9 : (s.number ≡ x.number → ⊥) → taking s x ≡ refused 9
       unfolding taking
