@@ -1,6 +1,6 @@
 -- How adding an offer meets its promise: refused, or accepted with the map and the buffer of the definition.
 -- Assumes nothing.
-use mathlib.Core.Path.{◌≡◌, refl, sym, ap, ◌∙◌}
+use mathlib.Core.Path.{◌≡◌, refl, ap, ◌∙◌}
 use mathlib.Core.Bool.{Bool, true, false, ◌&&◌, ◌||◌, or-false}
 use mathlib.Core.List.{List}
 use Prim.Native.Nat.{ℕ, ◌+◌, ◌*◌, ◌≤◌, ◌<◌}
@@ -35,12 +35,9 @@ module _ (s : Reception) (o : Offer) (answer : Answer ℕ) (map buffer : List �
   pub adds_refused : (reason : Reason) → answer ≡ refused (number_of reason) → map ≡ s.map → buffer ≡ s.buffer → Adds s o answer (Err reason) map buffer
   adds_refused reason e m b = rw e record { answers = refl; leaves_map = m; leaves_buffer = b }
 
-  pub adds_accepted : (n : ℕ) → answer ≡ accepted n → map ≡ map_with s o → buffer ≡ buffer_with s o → Adds s o answer (Ok n) map buffer
-  adds_accepted n e m b = rw e record { answers = refl; leaves_map = m; leaves_buffer = b }
-
   -- .. where what is answered is the count of the definition
   pub adds_counted : (k n : ℕ) → answer ≡ accepted k → n ≡ k → map ≡ map_with s o → buffer ≡ buffer_with s o → Adds s o answer (Ok n) map buffer
-  adds_counted k n e c m b = adds_accepted n (e ∙ ap accepted (sym c)) m b
+  adds_counted k n e c m b = rw (c, e) record { answers = refl; leaves_map = m; leaves_buffer = b }
 
 -- ---- what is not offered, and what it leaves
 pub piece_below : (x : PieceData) (l p : ℕ) → x.offset + length x.bytes ≤ l → l ≤ p → offered (of_piece x) p ≡ false

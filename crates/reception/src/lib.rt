@@ -51,6 +51,7 @@ pub struct Reception<'a> {
 
 // Opens a reception of a file of a length: clears the ceil(L/8) bytes of its map and the L bytes of its
 // buffer; refuses 7, 12.
+#[tactic(auto, using(crate::proofs::GivenReasons::opens_in))]
 pub fn open(length: u32, map: &mut [u8], buffer: &mut [u8]) -> Result<(), Reason>
     ensures { Opens length map.old buffer.old result map.new buffer.new }
 {
@@ -96,7 +97,7 @@ pub fn join(file: File, map: &mut [u8], buffer: &mut [u8], second: Reception) ->
     if file != second.file {
         return Err(Reason::OtherFile);
     }
-    let l = file.length as usize;
+    let l = second.file.length as usize;
     if !runs::both_agree(map, buffer, second.map, second.buffer, l) {
         return Err(Reason::Differs);
     }
