@@ -1,8 +1,11 @@
--- `ax25::writable` meets its contract, by what `is_name` ensures.
--- Assumes nothing.
+use Rattle.std.proofs.Common.{arith}
 use Rattle.ax25.specs.Address.{is_writable}
 use Rattle.ax25.proofs.writable.Goals as goal
 
-pub returns : goal.returns
+pub returns-then-a-lt16 : goal.returns-then-a-lt16
 unfolding is_writable
-returns c = simp c.is_name.ensures
+returns-then-a-lt16 c = grind arith
+
+pub returns-else-a-lt16 : goal.returns-else-a-lt16
+unfolding is_writable
+returns-else-a-lt16 c = grind arith
