@@ -71,7 +71,7 @@ pub fn take(file: File, map: &mut [u8], buffer: &mut [u8], data: Data) -> Result
         return Err(Reason::OtherFile);
     }
     let at = data.offset as usize;
-    if (file.length as usize) < at.saturating_add(data.bytes.len()) {
+    if (file.length as usize) < at + data.bytes.len() {
         return Err(Reason::Beyond);
     }
     let agrees = runs::piece_agrees(map, buffer, at, data.bytes);
@@ -82,7 +82,8 @@ pub fn take(file: File, map: &mut [u8], buffer: &mut [u8], data: Data) -> Result
 }
 
 // Joins a second reception into a first, and answers how many positions only the second held; refuses 7
-// (either), 12 (either), 9 (number or length), 11. The second is unchanged.
+// (either), 12 (either), 9 (number or length), 11. The second is unchanged. What opening tests is not asked of
+// each in turn, since 7 of the second comes before 12 of the first.
 pub fn join(file: File, map: &mut [u8], buffer: &mut [u8], second: Reception) -> Result<u32, Reason>
     ensures { Joins (lent_for file map.old buffer.old) (lent_in second.entry) result map.new buffer.new }
 {

@@ -2,7 +2,7 @@
 -- Assumes nothing.
 use mathlib.Core.Path.{◌≡◌, refl, sym, ap, ◌∙◌}
 use mathlib.Core.Bool.{true, not}
-use Prim.Native.Nat.{ℕ, ◌+◌, ◌-◌, ◌^◌, ◌≤◌, min}
+use Prim.Native.Nat.{◌+◌, ◌≤◌}
 use native.Mathlib.Omega.{arith}
 use lib.ListN.{length}
 use Rattle.std.proofs.Common.{rules}
@@ -25,16 +25,13 @@ refuses_first : (s : Reception) (x : PieceData) (reason : Reason) → refused (n
     → Adds s (of_piece x) (taking s x) (Err reason) s.map s.buffer
 refuses_first s x reason e = adds_refused _ _ _ _ _ reason (takes_first s x (number_of reason) (sym e)) refl refl
 
--- a piece that ends by the file's end lies inside the map and the buffer; a sum that stops at the largest number is beyond it
-module _ (s : Reception) (x : PieceData) (room : opening s.length s.map s.buffer ≡ accepted tt) where
-  by_the_end : (end : ℕ) → end ≡ min (x.offset + length x.bytes) (2 ^ 64 - 1) → end ≤ s.length → x.offset + length x.bytes ≤ s.length
-  by_the_end end is h = let l = right_length s.length (opens_only_if s.length s.map s.buffer room).0 in omega arith
-
-  lies : x.offset + length x.bytes ≤ s.length → inside s.map s.buffer x.offset (length x.bytes) ≡ true
-  lies fits =
-      let l = right_length s.length (opens_only_if s.length s.map s.buffer room).0 in
-      let w = opens_in s.length s.map s.buffer room in
-      is_inside s.map s.buffer x.offset (length x.bytes) (omega (arith, l, fits)) (omega (arith, w, fits)) (omega (arith, w, fits))
+-- a piece that ends by the file's end lies inside the map and the buffer
+lies : (s : Reception) (x : PieceData) → opening s.length s.map s.buffer ≡ accepted tt → x.offset + length x.bytes ≤ s.length
+    → inside s.map s.buffer x.offset (length x.bytes) ≡ true
+lies s x room fits =
+    let l = right_length s.length (opens_only_if s.length s.map s.buffer room).0 in
+    let w = opens_in s.length s.map s.buffer room in
+    is_inside s.map s.buffer x.offset (length x.bytes) (omega (arith, l, fits)) (omega (arith, w, fits)) (omega (arith, w, fits))
 
 pub returns-in_err-room : goal.returns-in_err-room
 returns-in_err-room c =
@@ -43,8 +40,8 @@ returns-in_err-room c =
 pub returns-then-file-data : goal.returns-then-file-data
 returns-then-file-data c = adds_refused _ _ _ _ _ OtherFile (takes_9 _ _ (sym c.in_ok-room.ensures) c.if-file-data.true) refl refl
 
-pub returns-then-file-saturating_add : goal.returns-then-file-saturating_add
-returns-then-file-saturating_add c =
+pub returns-then-file-at : goal.returns-then-file-at
+returns-then-file-at c =
     adds_refused _ _ _ _ _ Beyond (takes_10 _ _ (sym c.in_ok-room.ensures) c.if-file-data.false (omega arith)) refl refl
 
 pub returns-then-not-agrees : goal.returns-then-not-agrees
@@ -52,20 +49,18 @@ returns-then-not-agrees c =
     let s = lent_for c.args.file c.args.map.now c.args.buffer.now in
     let x = data_in c.args.data in
     let room = sym c.in_ok-room.ensures in
-    let fits = by_the_end s x room _ c.saturating_add.ensures c.if-file-saturating_add.false in
-    let told = agrees_told _ (lies s x room fits) s.map s.buffer (of_piece x) _ c.piece_agrees-agrees.ensures in
-    adds_refused _ _ _ _ _ Differs (takes_11 s x room c.if-file-data.false fits (ap not (told ∙ c.if-not-agrees.true))) refl refl
+    let told = agrees_told _ (lies s x room c.if-file-at.false) s.map s.buffer (of_piece x) _ c.piece_agrees-agrees.ensures in
+    adds_refused _ _ _ _ _ Differs (takes_11 s x room c.if-file-data.false c.if-file-at.false (ap not (told ∙ c.if-not-agrees.true))) refl refl
 
 pub returns : goal.returns
 returns c =
     let s = lent_for c.args.file c.args.map.now c.args.buffer.now in
     let x = data_in c.args.data in
     let room = sym c.in_ok-room.ensures in
-    let fits = by_the_end s x room _ c.saturating_add.ensures c.if-file-saturating_add.false in
-    let inside = lies s x room fits in
+    let inside = lies s x room c.if-file-at.false in
     let agree : agrees s (of_piece x) ≡ true =
     agrees_told _ inside s.map s.buffer (of_piece x) _ c.piece_agrees-agrees.ensures ∙ c.if-not-agrees.false in
     let stored = when_inside _ s.map s.buffer (of_piece x) _ inside _ _ _ c.put_piece.ensures in
     let w = opens_in s.length s.map s.buffer room in
-    adds_counted s (of_piece x) (taking s x) _ _ _ _ (takes s x room c.if-file-data.false fits (ap not agree)) stored.counts
-    stored.leaves_map (stored.leaves_buffer ∙ piece_stored s.map s.buffer x.offset x.bytes agree (omega (arith, w, fits)))
+    adds_counted s (of_piece x) (taking s x) _ _ _ _ (takes s x room c.if-file-data.false c.if-file-at.false (ap not agree)) stored.counts
+    stored.leaves_map (stored.leaves_buffer ∙ piece_stored s.map s.buffer x.offset x.bytes agree (omega (arith, w, c.if-file-at.false)))
