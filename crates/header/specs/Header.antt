@@ -1,6 +1,7 @@
 -- When a file header is accepted, and the values that it then gives (01, "File header").
 -- Assumes nothing.
-use Rattle.std.specs.Prelude.{Bool, true, not, cond, ◌&&◌, List, [], ◌∷◌, ℕ, ◌+◌, ◌%◌, leb, eqb, take, Option, Some, None}
+use Rattle.std.specs.Prelude.{Bool, not, cond, ◌&&◌, List, [], ◌∷◌, ℕ, ◌%◌, leb, eqb, take, Option, Some, None, sum}
+use Rattle.std.specs.List.{list_all}
 use Rattle.reason.specs.Answer.{Answer}
 use Rattle.reason.specs.Order.{Check, check, first_of}
 use Rattle.octets.specs.Numbers.{byte_at, number_at}
@@ -27,24 +28,14 @@ pairs_of (known id size meaning ∷ rest) = record { id = id; size = size } ∷ 
 abbrev pub mandatory : List Pair
 mandatory = pairs_of mandatory_items
 
--- every pair passes the test
-abbrev pub every_pair : (Pair → Bool) → List Pair → Bool
-every_pair test [] = true
-every_pair test (p ∷ rest) = test p && every_pair test rest
-
 -- the pair's item is there exactly once, with its length; count and size tell of each id how many items have it, and how
 -- long their data are
 abbrev pub once : (ℕ → ℕ) → (ℕ → ℕ) → Pair → Bool
 once count size p = eqb (count p.id) 1 && eqb (size p.id) p.size
 
--- the sum of bytes
-abbrev pub sum_of : List ℕ → ℕ
-sum_of [] = 0
-sum_of (b ∷ s) = b + sum_of s
-
 -- the sum of all header bytes modulo 65,536, with item 0A's own two data bytes taken as 0
 unfoldable pub header_sum : List ℕ → ℕ
-header_sum s = sum_of (put_in (take (header_length s) s) (start_of (items s) 0x0A) (0 ∷ 0 ∷ [])) % 65536
+header_sum s = sum (put_in (take (header_length s) s) (start_of (items s) 0x0A) (0 ∷ 0 ∷ [])) % 65536
 
 -- item 0A is the sum, item 01 the file's number, and item 0B (body) at least the header's length (size) and at most item 04 (length)
 abbrev pub values_agree : Header → ℕ → ℕ → Bool
@@ -86,7 +77,7 @@ header_of s = values_by (count_of (items s)) (start_of (items s)) (header_length
 
 -- each mandatory item is there exactly once, with its length
 abbrev pub all_once : List ℕ → Bool
-all_once s = every_pair (once (count_of (items s)) (size_of (items s))) mandatory
+all_once s = list_all (once (count_of (items s)) (size_of (items s))) mandatory
 
 -- item 12 is there at most once
 abbrev pub upload_right : List ℕ → Bool

@@ -17,7 +17,6 @@ ghost use Rattle.reason.specs.Answer.{answer_of};
 ghost use Rattle.header.specs.Header.{read_header};
 ghost use Rattle.header.specs.Data.{data_of};
 
-use notes::{PLACES, Walked};
 use reason::Reason;
 
 // What an item tells of its file, by its id.
@@ -107,6 +106,7 @@ pub struct Header {
 
 // The length and the meaning of an item with the id: items 01 to 0B and 12 have one length each, the
 // end item has no data, and other items have any length.
+#[tactic(auto, unfolding(crate::specs::Items::decision_of, crate::specs::Items::known_items, crate::specs::Items::mandatory_items))]
 pub fn decide(id: u16) -> Decision
     ensures { result ≡ decision_of id }
 {
@@ -141,23 +141,20 @@ impl Cursor {
 
     // What stands at the cursor: an item and the cursor behind it, the end item and the cursor
     // behind it, or `Broken` where the bytes run out or the id does not allow the length.
+    #[tactic(auto, unfolding(crate::specs::Items::step_at, crate::specs::Items::step_with))]
     pub fn step(self, s: &[u8]) -> Step
         ensures { result ≡ step_at s.now self.at }
     {
         let at = self.at;
-        if s.len() < at {
+        if s.len() < at || s.len() - at < 3 {
             return Step::Broken;
         }
         let start = at + 3;
-        if s.len() < start {
-            return Step::Broken;
-        }
         let id = octets::number::<2>(s, at) as u16;
-        let size = octets::byte(s, at + 2) as usize;
+        let size = usize::from(octets::byte(s, at + 2));
         let decision = decide(id);
-        let allowed = decision.size;
         let meaning = decision.meaning;
-        if !allows(allowed, size) {
+        if !decision.size.allows(size) {
             return Step::Broken;
         }
         if id == 0 {
@@ -186,25 +183,14 @@ pub fn item_bytes(s: &[u8], id: u16) -> &[u8]
     let mut start = 0;
     let mut size = 0;
     let mut cursor = Cursor::first();
-    loop {
-        match cursor.step(s) {
-            Step::Found(item, next) => {
-                if item.id == id {
-                    start = item.start;
-                    size = item.size;
-                }
-                cursor = next;
-            }
-            Step::Ended(_) => {
-                let end = start + size;
-                return &s[start..end];
-            }
-            Step::Broken => {
-                let end = start + size;
-                return &s[start..end];
-            }
+    while let Step::Found(item, next) = cursor.step(s) {
+        if item.id == id {
+            start = item.start;
+            size = item.size;
         }
+        cursor = next;
     }
+    &s[start..start + size]
 }
 
 // The values of the header that s starts with, of the file with the number; refuses 8 where it breaks
@@ -215,20 +201,12 @@ pub fn read_header(s: &[u8], number: u32) -> Result<Header, Reason>
     if !values::begins(s) {
         return Err(Reason::Header);
     }
-    let mut counts = [0; PLACES];
-    let mut sizes = [0; PLACES];
-    let mut starts = [0; PLACES];
-    let Walked::Ended(end) = notes::walk(s, &mut counts, &mut sizes, &mut starts) else {
-        return Err(Reason::Header);
-    };
-    if !notes::all_once(&counts, &sizes) {
+    let notes = notes::walk(s).ok_or(Reason::Header)?;
+    if !notes.all_once() || 1 < notes.of(Meaning::UploadTime).count {
         return Err(Reason::Header);
     }
-    if 1 < notes::noted(&counts, Meaning::UploadTime) {
-        return Err(Reason::Header);
-    }
-    let header = values::values(s, end, &counts, &starts);
-    let sum = values::sum_but(&s[..end], notes::noted(&starts, Meaning::HeaderSum));
+    let header = values::values(s, &notes);
+    let sum = values::sum_but(&s[..notes.end], notes.of(Meaning::HeaderSum).start);
     if !values::agree(header, sum, number) {
         return Err(Reason::Header);
     }
@@ -245,12 +223,14 @@ fn exactly(size: usize, meaning: Meaning) -> Decision
     }
 }
 
-// Whether an item may have as many bytes of data.
-fn allows(allowed: Size, size: usize) -> bool
-    ensures { result ≡ allows_size allowed size }
-{
-    match allowed {
-        Size::Exactly(n) => size == n,
-        Size::Any => true,
+impl Size {
+    // Whether an item may have as many bytes of data.
+    fn allows(self, size: usize) -> bool
+        ensures { result ≡ allows_size self size }
+    {
+        match self {
+            Size::Exactly(n) => size == n,
+            Size::Any => true,
+        }
     }
 }
