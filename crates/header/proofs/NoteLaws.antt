@@ -5,10 +5,11 @@ use mathlib.Core.Bool.{Bool, true, false, cond, ◌&&◌}
 use mathlib.Core.List.{List, [], ◌∷◌}
 use Prim.Native.Nat.{ℕ, ◌+◌, ◌%◌, ◌≤◌}
 use native.Mathlib.Omega.{arith}
+use Rattle.std.proofs.lemmas.Bool.Decides.{nat_tests}
+use Rattle.std.proofs.lemmas.Grind.{common_steps}
 use lib.Dec.{eqb}
 use lib.ListN.{length, get_or, set, take, length-set}
-use lib.Seq.{get_or-set_same, get_or-set_other}
-use borrow.Author.Tests.{eqb-true, eqb-false}
+use borrow.Author.Tests.{eqb-true}
 use Rattle.std.specs.Prelude.{sum, Some, None}
 use Rattle.std.specs.List.{list_all}
 use Rattle.reason.proofs.Bools.{and_right}
@@ -37,13 +38,8 @@ noting notes i = with_note notes i.meaning (record { count = (note_of notes i.me
 
 -- what stands at each place, and at each id, after one note is changed
 module _ (notes : List Note) (long : length notes ≡ places) (m : Meaning) (v : Note) where
-  set_by : (k : ℕ) (b : Bool) → eqb (place_of m) k ≡ b → get_or (with_note notes m v) k no_note ≡ cond b v (get_or notes k no_note)
-  set_by k true e =
-      ap (λ (j : ℕ). get_or (with_note notes m v) j no_note) (sym (eqb-true (place_of m) k e)) ∙ get_or-set_same notes (place_of m) v no_note (omega (arith, place_below m))
-  set_by k false e = get_or-set_other notes (place_of m) k v no_note (λ s. eqb-false (place_of m) k e (sym s))
-
   set_at : (k : ℕ) → get_or (with_note notes m v) k no_note ≡ cond (eqb (place_of m) k) v (get_or notes k no_note)
-  set_at k = set_by k (eqb (place_of m) k) refl
+  set_at k = grind (arith, nat_tests, common_steps, place_below m)
 
   pub note_at : (id k : ℕ) → m ≡ (decision_of id).meaning → Placed k → by_id (with_note notes m v) k ≡ cond (eqb id k) v (by_id notes k)
   note_at id k e h =

@@ -20,12 +20,8 @@ pub only_one_decision : (id : ℕ) (r q : Decision) → r ≡ decision_of id →
 only_one_decision id r q = only_one r q
 
 -- `Cursor::first`: a cursor is its place
-cursor_of : ℕ → Cursor
-cursor_of at = record { at = at }
-
 pub only_one_first : (r q : Cursor) → r.at ≡ 2 → q.at ≡ 2 → r ≡ q
-unfolding cursor_of
-only_one_first r q d e = ap cursor_of (only_one r.at q.at d e)
+only_one_first r q d e = let made : ℕ → Cursor = λ at. record { at = at } in ap made (only_one r.at q.at d e)
 
 -- `Cursor::step`
 pub only_one_step : (s : List ℕ) (at : ℕ) (r q : Step) → r ≡ step_at s at → q ≡ step_at s at → r ≡ q

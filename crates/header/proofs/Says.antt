@@ -32,10 +32,6 @@ part : (s : List ℕ) (at n : ℕ) → at + n ≤ length s → values_from (byte
 part s at zero h = refl
 part s at (suc n) h = ap (λ (l : List ℕ). byte_at s at ∷ l) (part s (suc at) n (omega arith)) ∙ ap (take (suc n)) (sym (drop-cons s at 0 (omega arith)))
 
-some : (n : ℕ) → (n ≡ 0 → ⊥) → 1 ≤ n
-some zero h = absurd (h refl)
-some (suc n) h = omega arith
-
 -- a number in an item's data
 in_item : (n id : ℕ) (s : List ℕ) → size_of (items s) id ≡ n → number_at n s (start_of (items s) id) ≡ number_at n (data_of id s) 0
 unfolding data_of
@@ -57,7 +53,7 @@ module _ (s : List ℕ) (number : ℕ) (r : Rules s number) where
   upload_by : (b : Bool) → eqb (count_of (items s) 0x12) 0 ≡ b
       → cond b None (Some (number_at 4 s (start_of (items s) 0x12))) ≡ cond b None (Some (number_at 4 (data_of 0x12 s) 0))
   upload_by true e = refl
-  upload_by false e = ap Some (in_item 4 0x12 s (upload_sized s (some (count_of (items s) 0x12) (eqb-false (count_of (items s) 0x12) 0 e))))
+  upload_by false e = ap Some (in_item 4 0x12 s (upload_sized s (omega (arith, eqb-false (count_of (items s) 0x12) 0 e))))
 
   says : HeaderSays s number (header_of s)
   unfolding header_of mandatory_items data_of

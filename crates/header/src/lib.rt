@@ -12,8 +12,8 @@ mod notes;
 mod values;
 
 ghost use Rattle.std.specs.Prelude.{◌≡◌};
-ghost use Rattle.header.specs.Items.{decision_of, allows_size, step_at};
 ghost use Rattle.reason.specs.Answer.{answer_of};
+ghost use Rattle.header.specs.Items.{decision_of, allows_size, step_at};
 ghost use Rattle.header.specs.Header.{read_header};
 ghost use Rattle.header.specs.Data.{data_of};
 
@@ -39,6 +39,7 @@ pub enum Meaning {
 }
 
 // How many bytes of data an item has, by its id.
+// Kept beside `Option`: `None` would have to be read as "any length".
 #[derive(Clone, Copy, Debug, PartialEq, Eq)]
 pub enum Size {
     Exactly(usize),
@@ -69,6 +70,7 @@ pub struct Cursor {
 
 // What a step finds: an item, and the cursor behind it; the end item, and the cursor behind it; or
 // no whole item of a length that its id allows.
+// Kept beside `Option`: it has three cases.
 #[derive(Clone, Copy, Debug, PartialEq, Eq)]
 pub enum Step {
     Found(Item, Cursor),
@@ -133,7 +135,7 @@ pub fn decide(id: u16) -> Decision
 
 impl Cursor {
     // The cursor at the first item, behind AA 55.
-    pub fn first() -> Cursor
+    pub fn first() -> Self
         ensures { result.at ≡ 2 }
     {
         Cursor { at: 2 }
@@ -152,9 +154,11 @@ impl Cursor {
         let start = at + 3;
         let id = octets::number::<2>(s, at) as u16;
         let size = usize::from(octets::byte(s, at + 2));
-        let decision = decide(id);
-        let meaning = decision.meaning;
-        if !decision.size.allows(size) {
+        let Decision {
+            meaning,
+            size: allowed,
+        } = decide(id);
+        if !allowed.allows(size) {
             return Step::Broken;
         }
         if id == 0 {

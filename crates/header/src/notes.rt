@@ -76,7 +76,8 @@ pub(crate) fn walk(s: &[u8]) -> Option<Notes>
 impl Meaning {
     // The place of a meaning in the notes.
     fn place(self) -> usize
-        ensures { (result ≡ place_of self) × (result < places) }
+        ensures value { result ≡ place_of self }
+        ensures upper_bound { result < places }
     {
         self as usize
     }

@@ -16,6 +16,7 @@ pub(crate) fn begins(s: &[u8]) -> bool
 }
 
 // The values of the items whose data start at the noted places.
+#[tactic(auto, unfolding(crate::specs::Items::decision_of, crate::specs::Items::known_items, crate::specs::Items::mandatory_items))]
 pub(crate) fn values(s: &[u8], notes: &Notes) -> Header
     ensures { result ≡ values_by (counts notes.now.notes) (starts notes.now.notes) notes.now.end s.now }
 {
@@ -60,11 +61,7 @@ pub(crate) fn agree(h: Header, sum: u16, number: u32) -> bool
 fn upload(s: &[u8], note: Note) -> Option<u32>
     ensures { result ≡ upload_by note.count note.start s.now }
 {
-    if note.count == 0 {
-        None
-    } else {
-        Some(octets::number::<4>(s, note.start) as u32)
-    }
+    (note.count > 0).then(|| octets::number::<4>(s, note.start) as u32)
 }
 
 // The sum of all bytes of s modulo 65,536.

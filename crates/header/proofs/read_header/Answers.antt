@@ -1,6 +1,6 @@
 -- `header::read_header` meets its contract: one test of the rules fails at each refusal, and all hold at the end.
 -- Assumes nothing.
-use Rattle.std.proofs.Common.{◌≡◌, sym, ap, ap₂, ◌∙◌, Bool, true, false, ◌&&◌, List, [], ◌∷◌, ℕ, ◌%◌, ◌≤◌, ◌<◌, arith, rules, take, sum, None}
+use Rattle.std.proofs.Common.{◌≡◌, sym, ap, ap₂, ◌∙◌, Bool, true, false, List, [], ◌∷◌, ℕ, ◌%◌, ◌≤◌, ◌<◌, arith, rules, take, sum, None}
 use mathlib.Core.Bool.{true≢false}
 use Rattle.std.specs.List.{list_all}
 use Rattle.std.proofs.Math.Seq.{length-take-le}
@@ -17,13 +17,9 @@ use Rattle.header.specs.Rules.{Rules}
 use Rattle.header.specs.Notes.{note_of, counts, sizes, starts, Noted}
 use Rattle.header.proofs.NoteLaws.{once_by_notes, values_by_notes, uploads_by_notes, sum_by_notes, sum_in_header}
 use Rattle.header.proofs.HeaderLaws.{reads_header}
-use Rattle.header.proofs.RulesKept.{begins_kept, once_kept, values_kept, refuses_if}
+use Rattle.header.proofs.RulesKept.{all_5, begins_kept, once_kept, values_kept, refuses_if}
 use Rattle.header.proofs.read_header.Goals as goal
 use Rattle.header.proofs.read_header.Goals.{then-not-all_once-via-then-not-all_once, then-not-all_once-via-else-not-all_once+then-of-gt1}
-
--- the five tests of the rules, where all hold
-all_5 : (a b c d e : Bool) → a ≡ true → b ≡ true → c ≡ true → d ≡ true → e ≡ true → (a && b && c && d && e) ≡ true
-all_5 a b c d e p q r s t = rw (p, q, r, s, t)
 
 module _ (s : List ℕ) (number : ℕ) where
   -- a test that the rules would pass and that fails

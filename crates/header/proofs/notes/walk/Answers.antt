@@ -16,7 +16,7 @@ loop-item-smaller c =
     omega (arith, x.next, x.within)
 
 pub loop-item-preserved : goal.loop-item-preserved
-loop-item-preserved c = one_more_at _ _ _ c.loop-item.invariant _ _ _ c.in-Found.is c.step.ensures _ c.place-at.ensures.0
+loop-item-preserved c = one_more_at _ _ _ c.loop-item.invariant _ _ _ c.in-Found.is c.step.ensures _ c.place-at.ensures.value
 
 pub returns-in-Ended : goal.returns-in-Ended
 returns-in-Ended c = at_end _ _ _ c.loop-item.invariant _ _ c.in-Ended.is c.step.ensures
