@@ -30,14 +30,17 @@ use Rattle.header.proofs.TableLaws.{each, every_same, each_placed, sum_listed}
 use Rattle.header.proofs.ItemLaws.{Next, items_by, found_by_told, ended_by_told, last_more}
 
 -- the notes with that of a meaning changed, and with one item more
-abbrev with_note : List Note → Meaning → Note → List Note
+abbrev pub with_note : List Note → Meaning → Note → List Note
 with_note notes m v = set notes (place_of m) v
 
 abbrev pub noting : List Note → Item → List Note
 noting notes i = with_note notes i.meaning (record { count = (note_of notes i.meaning).count + 1; size = i.size; start = i.start })
 
--- what stands at each place, and at each id, after one note is changed
+-- a list of notes after one is changed: its length, and what stands at each place and at each id
 module _ (notes : List Note) (long : length notes ≡ places) (m : Meaning) (v : Note) where
+  pub note_long : length (with_note notes m v) ≡ places
+  note_long = length-set notes (place_of m) v ∙ long
+
   set_at : (k : ℕ) → get_or (with_note notes m v) k no_note ≡ cond (eqb (place_of m) k) v (get_or notes k no_note)
   set_at k = grind (arith, nat_tests, common_steps, place_below m)
 
@@ -107,7 +110,7 @@ module _ (s : List ℕ) (at : ℕ) (notes : List Note) (sofar : SoFar s at notes
       within = λ k h. within_by k (eqb i.id k) (at_id (λ n. n.start) k h) (at_id (λ n. n.size) k h) (sofar.within k h);
       ending = sym (ap comes_to_end here) ∙ sofar.ending;
       reaching = sym (ap behind_end here) ∙ sofar.reaching;
-      long = length-set notes (place_of i.meaning) _ ∙ sofar.long;
+      long = note_long notes sofar.long i.meaning _;
     }
 
     -- the same for the place that the code works out
