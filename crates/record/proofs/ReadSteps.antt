@@ -17,13 +17,13 @@ use Rattle.positions.proofs.BitLaws.{bit_lt, bits_ext, set_shr, set_none, set_hi
 use Rattle.positions.proofs.SpanLaws.{all_if, all_at, every_more, every_same, part_fails, no_between}
 use Rattle.positions.proofs.MapLaws.{held_by, full_set}
 use Rattle.positions.proofs.MapLaws.{bit_of}
-use Rattle.record.specs.declared.Recorded.{Recorded}
+use Rattle.reception.specs.declared.File.{File}
 use Rattle.record.specs.Record.{map_at, buffer_at, record_length}
 use Rattle.record.specs.Reading.{number_in, length_in, part, map_in, buffer_in, spare_clear, unheld_clear, recorded_in}
 use Rattle.record.specs.Inner.{part_by, clear_at}
 
 -- what a record says, from its two numbers
-pub said : (s : List ℕ) (n l : ℕ) → n ≡ number_in s → l ≡ length_in s → ◌≡◌ {A = Recorded} (record { number = n; length = l }) (recorded_in s)
+pub said : (s : List ℕ) (n l : ℕ) → n ≡ number_in s → l ≡ length_in s → ◌≡◌ {A = File} (record { number = n; length = l }) (recorded_in s)
 said s n l d e = rw (d, e)
 
 -- four tests, each by what it is

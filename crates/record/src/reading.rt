@@ -9,8 +9,9 @@ ghost use Rattle.record.specs.Inner.{part_by, clear_at};
 
 use super::{
     BEFORE_DATA, BUFFER_TAG, LENGTH_AT, LENGTH_FIELD, LENGTH_TAG, MAP_AT, MAP_FIELD, MAP_TAG,
-    NUMBER_AT, NUMBER_FIELD, NUMBER_SIZE, NUMBER_TAG, Recorded,
+    NUMBER_AT, NUMBER_FIELD, NUMBER_SIZE, NUMBER_TAG,
 };
+use reception::File;
 
 // Where the buffer of a file of a length stands in a record.
 pub(crate) fn buffer_at(l: u32) -> usize
@@ -26,13 +27,13 @@ pub(crate) fn record_length(l: u32) -> usize
     buffer_at(l) + (l as usize)
 }
 
-// The number and the length that a record says.
-pub(crate) fn says(saved: &[u8]) -> Recorded
+// The file that a record says.
+pub(crate) fn says(saved: &[u8]) -> File
     ensures { result ≡ recorded_in saved.now }
 {
-    Recorded {
-        number: octets::number4(saved, NUMBER_AT),
-        length: octets::number4(saved, LENGTH_AT),
+    File {
+        number: octets::number::<4>(saved, NUMBER_AT) as u32,
+        length: octets::number::<4>(saved, LENGTH_AT) as u32,
     }
 }
 
@@ -89,7 +90,7 @@ fn field_at(saved: &[u8], at: usize, tag: u8, size: usize) -> bool
     requires { at < length saved.now }
     ensures { result ≡ field_at saved.now at tag size }
 {
-    (saved[at] == tag) & ((octets::number2(saved, at + 1) as usize) == size)
+    saved[at] == tag && octets::number::<2>(saved, at + 1) as usize == size
 }
 
 // Whether the tags and the lengths of all four fields stand where they should.

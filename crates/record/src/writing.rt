@@ -4,20 +4,21 @@ ghost use Rattle.octets.specs.Numbers.{byte_at, bytes_of};
 ghost use Rattle.octets.specs.Values.{values_from};
 ghost use Rattle.octets.specs.Runs.{put_in};
 ghost use Rattle.positions.specs.Map.{map_size};
-ghost use Rattle.reception.specs.Reception.{longest, wrong_length};
+ghost use Rattle.reception.specs.Reception.{lent_in, longest, wrong_length};
 ghost use Rattle.record.specs.Record.{field, saved_map, saved_buffer, record_of, record_length};
 ghost use Rattle.record.specs.Inner.{byte_saved};
 
 use super::{BEFORE_DATA, BUFFER_TAG, LENGTH_TAG, MAP_AT, MAP_TAG, NUMBER_TAG};
+use reception::Reception;
 
 // The bytes before the map: the fields of the number and of the length, and the tag and length of the map's.
 fn before_map(number: u32, length: u32) -> [u8; MAP_AT]
     requires { length ≤ longest }
     ensures { result ≡ field 1 (bytes_of 4 number) ++ field 2 (bytes_of 4 length) ++ 3 ∷ bytes_of 2 (map_size length) }
 {
-    let n = octets::bytes4(number);
-    let l = octets::bytes4(length);
-    let size = octets::bytes2(reception::map_size(length) as u16);
+    let n = octets::bytes::<4>(number as u64);
+    let l = octets::bytes::<4>(length as u64);
+    let size = octets::bytes::<2>(reception::map_size(length) as u64);
     [
         NUMBER_TAG, 4, 0, n[0], n[1], n[2], n[3], LENGTH_TAG, 4, 0, l[0], l[1], l[2], l[3],
         MAP_TAG, size[0], size[1],
@@ -29,7 +30,7 @@ fn before_buffer(length: u32) -> [u8; BEFORE_DATA]
     requires { length ≤ longest }
     ensures { result ≡ 4 ∷ bytes_of 2 length }
 {
-    let l = octets::bytes2(length as u16);
+    let l = octets::bytes::<2>(length as u64);
     [BUFFER_TAG, l[0], l[1]]
 }
 
@@ -121,14 +122,24 @@ fn put_buffer(map: &[u8], buffer: &[u8], l: usize, target: &mut [u8], at: usize)
 }
 
 // Writes the record of a reception into the first bytes of the target.
-pub(crate) fn write(number: u32, l: u32, map: &[u8], buffer: &[u8], target: &mut [u8])
-    requires { (wrong_length l ≡ false) × (map_size l ≤ length map.now) × (l ≤ length buffer.now) × (record_length l ≤ length target.old) }
-    ensures { target.new ≡ put_in target.old 0 (record_of (record { number = number; length = l; map = map.now; buffer = buffer.now })) }
+pub(crate) fn write(reception: Reception, target: &mut [u8])
+    requires length { wrong_length reception.file.length ≡ false }
+    requires map { map_size reception.file.length ≤ length reception.map.now }
+    requires buffer { reception.file.length ≤ length reception.buffer.now }
+    requires target { record_length reception.file.length ≤ length target.old }
+    ensures { target.new ≡ put_in target.old 0 (record_of (lent_in reception.entry)) }
 {
+    let l = reception.file.length;
     let n = l as usize;
     let size = reception::map_size(l);
-    octets::put(target, 0, &before_map(number, l));
-    put_map(map, n, target, MAP_AT);
+    octets::put(target, 0, &before_map(reception.file.number, l));
+    put_map(reception.map, n, target, MAP_AT);
     octets::put(target, MAP_AT + size, &before_buffer(l));
-    put_buffer(map, buffer, n, target, MAP_AT + size + BEFORE_DATA);
+    put_buffer(
+        reception.map,
+        reception.buffer,
+        n,
+        target,
+        MAP_AT + size + BEFORE_DATA,
+    );
 }
