@@ -3,6 +3,7 @@ pub mod CopyLaws
 pub mod EightLaws
 pub mod JoinSteps
 pub mod Steps
+pub mod PieceSteps
 pub mod OfferLaws
 pub mod OnlyOne
 pub mod Cases
