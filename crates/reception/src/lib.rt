@@ -19,6 +19,7 @@ ghost use Rattle.reception.specs.Joining.{Joins};
 ghost use Rattle.reception.specs.Held.{held_of, held_count};
 
 use reason::Reason;
+use runs::Held;
 pub use space::{map_size, short, short_map, wrong_length};
 
 // The longest file.
@@ -74,7 +75,7 @@ pub fn take(file: File, map: &mut [u8], buffer: &mut [u8], data: Data) -> Result
     if (file.length as usize) < at + data.bytes.len() {
         return Err(Reason::Beyond);
     }
-    let agrees = runs::piece_agrees(map, buffer, at, data.bytes);
+    let agrees = runs::piece_agrees(Held { map, buffer }, at, data.bytes);
     if !agrees {
         return Err(Reason::Differs);
     }
@@ -99,10 +100,14 @@ pub fn join(file: File, map: &mut [u8], buffer: &mut [u8], second: Reception) ->
         return Err(Reason::OtherFile);
     }
     let l = second.file.length as usize;
-    if !runs::both_agree(map, buffer, second.map, second.buffer, l) {
+    let theirs = Held {
+        map: second.map,
+        buffer: second.buffer,
+    };
+    if !runs::both_agree(Held { map, buffer }, theirs, l) {
         return Err(Reason::Differs);
     }
-    Ok(runs::add_held(map, buffer, second.map, second.buffer, l))
+    Ok(runs::add_held(map, buffer, theirs, l))
 }
 
 // Whether a position of a file of a length is held. A position that is not below the length, or beyond
