@@ -64,22 +64,22 @@ pub fn open(length: u32, map: &mut [u8], buffer: &mut [u8]) -> Result<(), Reason
 
 // Takes the data of a piece into the reception of a file, and answers how many positions are newly held: 0
 // for a repeat; refuses 7, 12, 9, 10, 11.
-pub fn take(file: File, map: &mut [u8], buffer: &mut [u8], data: Data) -> Result<u32, Reason>
-    ensures { Takes (lent_for file map.old buffer.old) (data_in data.entry) result map.new buffer.new }
+pub fn take(file: File, map: &mut [u8], buffer: &mut [u8], piece: Data) -> Result<u32, Reason>
+    ensures { Takes (lent_for file map.old buffer.old) (data_in piece.entry) result map.new buffer.new }
 {
     space::room(file.length, map, buffer)?;
-    if file.number != data.number {
+    if file.number != piece.number {
         return Err(Reason::OtherFile);
     }
-    let at = data.offset as usize;
-    if (file.length as usize) < at + data.bytes.len() {
+    let at = piece.offset as usize;
+    if (file.length as usize) < at + piece.bytes.len() {
         return Err(Reason::Beyond);
     }
-    let agrees = runs::piece_agrees(Held { map, buffer }, at, data.bytes);
+    let agrees = runs::piece_agrees(Held { map, buffer }, at, piece.bytes);
     if !agrees {
         return Err(Reason::Differs);
     }
-    Ok(runs::put_piece(map, buffer, at, data.bytes))
+    Ok(runs::put_piece(map, buffer, at, piece.bytes))
 }
 
 // Joins a second reception into a first, and answers how many positions only the second held; refuses 7

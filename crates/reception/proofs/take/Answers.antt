@@ -35,32 +35,32 @@ lies s x room fits =
 
 pub returns-in_err-room : goal.returns-in_err-room
 returns-in_err-room c =
-    search (rules, refuses_first (lent_for c.args.file c.args.map.now c.args.buffer.now) (data_in c.args.data) c.in_err-room.field-0.0 c.in_err-room.ensures)
+    search (rules, refuses_first (lent_for c.args.file c.args.map.now c.args.buffer.now) (data_in c.args.piece) c.in_err-room.field-0.0 c.in_err-room.ensures)
 
-pub returns-then-file-data : goal.returns-then-file-data
-returns-then-file-data c = adds_refused _ _ _ _ _ OtherFile (takes_9 _ _ (sym c.in_ok-room.ensures) c.if-file-data.true) refl refl
+pub returns-then-file-piece : goal.returns-then-file-piece
+returns-then-file-piece c = adds_refused _ _ _ _ _ OtherFile (takes_9 _ _ (sym c.in_ok-room.ensures) c.if-file-piece.true) refl refl
 
 pub returns-then-file-at : goal.returns-then-file-at
 returns-then-file-at c =
-    adds_refused _ _ _ _ _ Beyond (takes_10 _ _ (sym c.in_ok-room.ensures) c.if-file-data.false (omega arith)) refl refl
+    adds_refused _ _ _ _ _ Beyond (takes_10 _ _ (sym c.in_ok-room.ensures) c.if-file-piece.false (omega arith)) refl refl
 
 pub returns-then-not-agrees : goal.returns-then-not-agrees
 returns-then-not-agrees c =
     let s = lent_for c.args.file c.args.map.now c.args.buffer.now in
-    let x = data_in c.args.data in
+    let x = data_in c.args.piece in
     let room = sym c.in_ok-room.ensures in
     let told = agrees_told _ (lies s x room c.if-file-at.false) s.map s.buffer (of_piece x) _ c.piece_agrees-agrees.ensures in
-    adds_refused _ _ _ _ _ Differs (takes_11 s x room c.if-file-data.false c.if-file-at.false (ap not (told ∙ c.if-not-agrees.true))) refl refl
+    adds_refused _ _ _ _ _ Differs (takes_11 s x room c.if-file-piece.false c.if-file-at.false (ap not (told ∙ c.if-not-agrees.true))) refl refl
 
 pub returns : goal.returns
 returns c =
     let s = lent_for c.args.file c.args.map.now c.args.buffer.now in
-    let x = data_in c.args.data in
+    let x = data_in c.args.piece in
     let room = sym c.in_ok-room.ensures in
     let inside = lies s x room c.if-file-at.false in
     let agree : agrees s (of_piece x) ≡ true =
     agrees_told _ inside s.map s.buffer (of_piece x) _ c.piece_agrees-agrees.ensures ∙ c.if-not-agrees.false in
     let stored = when_inside _ s.map s.buffer (of_piece x) _ inside _ _ _ c.put_piece.ensures in
     let w = opens_in s.length s.map s.buffer room in
-    adds_counted s (of_piece x) (taking s x) _ _ _ _ (takes s x room c.if-file-data.false c.if-file-at.false (ap not agree)) stored.counts
+    adds_counted s (of_piece x) (taking s x) _ _ _ _ (takes s x room c.if-file-piece.false c.if-file-at.false (ap not agree)) stored.counts
     stored.leaves_map (stored.leaves_buffer ∙ piece_stored s.map s.buffer x.offset x.bytes agree (omega (arith, w, c.if-file-at.false)))
