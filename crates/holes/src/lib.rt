@@ -11,6 +11,7 @@ ghost use Rattle.reason.specs.Answer.{answer_of};
 ghost use Rattle.holes.specs.Holes.{held_before, hole_start};
 ghost use Rattle.holes.specs.Listing.{listing};
 
+use positions::Side;
 use reason::Reason;
 
 // A hole: its first position, and how many positions it has.
@@ -34,10 +35,10 @@ fn hole_start(map: &[u8], place: u32, n: u32) -> u32
     ensures { result ≡ hole_start n map.now place }
 {
     if !goes_on(map, place) {
-        return positions::first_unheld(map, place, n);
+        return positions::first_on(map, Side::Unheld, place, n);
     }
-    let past = positions::first_held(map, place, n);
-    positions::first_unheld(map, past, n)
+    let past = positions::first_on(map, Side::Held, place, n);
+    positions::first_on(map, Side::Unheld, past, n)
 }
 
 // The first hole that starts at the place or later; refuses 7, 12 (the map's), 15. Asked from 0 and then
@@ -55,7 +56,7 @@ pub fn list(length: u32, map: &[u8], place: u32) -> Result<Hole, Reason>
     if length <= start {
         return Err(Reason::NoHole);
     }
-    let end = positions::first_held(map, start, length);
+    let end = positions::first_on(map, Side::Held, start, length);
     Ok(Hole {
         start,
         length: end - start,

@@ -7,10 +7,10 @@ use Rattle.holes.proofs.hole_start.Goals as goal
 pub returns-then-not-goes_on : goal.returns-then-not-goes_on
 returns-then-not-goes_on c =
     let x = c.args in
-    start_at x.map.now x.place x.n (sym c.goes_on.ensures ∙ c.if-not-goes_on.true) c.first_unheld.result c.first_unheld.ensures
+    start_at x.map.now x.place x.n (sym c.goes_on.ensures ∙ c.if-not-goes_on.true) c.first_on.result c.first_on.ensures
 
 pub returns : goal.returns
 returns c =
     let x = c.args in
-    start_after x.map.now x.place x.n c.first_held-past.result (sym c.goes_on.ensures ∙ c.if-not-goes_on.false) c.first_held-past.ensures
-    c.first_unheld-2.result c.first_unheld-2.ensures
+    start_after x.map.now x.place x.n c.first_on-past.result (sym c.goes_on.ensures ∙ c.if-not-goes_on.false) c.first_on-past.ensures
+    c.first_on-2.result c.first_on-2.ensures
