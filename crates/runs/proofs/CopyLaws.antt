@@ -2,14 +2,16 @@
 -- Assumes nothing.
 use mathlib.Core.Path.{◌≡◌, refl, sym, ap, ◌∙◌, subst}
 use mathlib.Core.Bool.{Bool, true, false, cond, ◌&&◌, ◌||◌}
-use mathlib.Core.List.{List, ◌++◌}
+use mathlib.Core.List.{List}
 use Prim.Native.Nat.{ℕ, ◌+◌, ◌-◌, ◌≤◌, ◌<◌}
-use native.Mathlib.Nat.{zero-add}
 use native.Mathlib.Omega.{arith}
-use lib.ListN.{length, set, take, drop, length-set}
+use lib.ListN.{length, set, length-set}
 use lib.Seq.{get_or-set_same, get_or-set_other}
 use lib.Dec.{eqb}
 use borrow.Author.Tests.{eqb-true, eqb-false}
+use Rattle.std.specs.List.{between}
+use Rattle.std.proofs.lemmas.List.Edits.{length-between, get_or-between}
+use borrow.Rule.Slice.PartMut.{put_mid}
 use Rattle.octets.specs.Numbers.{byte_at}
 use Rattle.octets.specs.Values.{values_from}
 use Rattle.octets.specs.Runs.{put_in, Put}
@@ -18,7 +20,6 @@ use Rattle.octets.proofs.RunLaws.{put_fits, put_copied, put_length, put_before, 
 use Rattle.positions.specs.Spans.{within}
 use Rattle.positions.proofs.SpanLaws.{in_span, before_span, behind_span, by_span, no_between, span_join, span_one}
 use Rattle.runs.specs.Inner.{BufferRun}
-use Rattle.runs.proofs.Steps.{part_at}
 
 pub copy_nothing : (new : ℕ → Bool) (from b : List ℕ) (p n : ℕ) → ((q : ℕ) → p ≤ q → q < p + n → new q ≡ false) → BufferRun new from b p n b
 copy_nothing new from b p n none = record {
@@ -79,33 +80,25 @@ module _ (new : ℕ → Bool) (from b : List ℕ) (p n : ℕ) (b' : List ℕ) (r
         ∙ ap (λ (w : Bool). cond (w && new q) (byte_at from q) (byte_at b q)) (span_join p n k q);
   }
 
--- one place more from 0 on, as a loop meets it
-pub copy_more : (new : ℕ → Bool) (d b : List ℕ) (k : ℕ) (b' : List ℕ) → BufferRun new d b 0 k b' → (here : Bool) → here ≡ new k → k < length b'
-    → BufferRun new d b 0 (k + 1) (set b' k (cond here (byte_at d k) (byte_at b' k)))
-copy_more new d b k b' run here is h =
-    let next : BufferRun new d b' (0 + k) 1 (set b' k (cond here (byte_at d k) (byte_at b' k))) =
-    rw (zero-add k, is) (copy_one new d b' k h) in
-    copy_then new d b 0 k b' run 1 (set b' k (cond here (byte_at d k) (byte_at b' k))) next
-
 -- what is copied in a part of a buffer is copied in the buffer
-pub copy_part : (new : ℕ → Bool) (d b : List ℕ) (p n : ℕ) (s : List ℕ) → p + n ≤ length b → p + n ≤ length d → length (take n (drop p b)) ≡ n
-    → BufferRun new (take n (drop p d)) (take n (drop p b)) 0 (length (take n (drop p b))) s
-    → BufferRun (λ q. new (q - p)) d b p n (take p b ++ (s ++ drop n (drop p b)))
-copy_part new d b p n s here there size run =
-    let long : n ≡ length s = sym (run.long ∙ size) in
+pub copy_part : (new : ℕ → Bool) (d b : List ℕ) (p end : ℕ) (s : List ℕ) → p ≤ end → end ≤ length b → end ≤ length d
+    → BufferRun new (between p end d) (between p end b) 0 (length (between p end b)) s → BufferRun (λ q. new (q - p)) d b p (end - p) (put_mid p (end - p) b s)
+copy_part new d b p end s low here there run =
+    let size = length-between b p end here in
+    let long : end - p ≡ length s = sym (run.long ∙ size) in
     let room : p + length s ≤ length b = omega (arith, long) in
-    let is : take p b ++ (s ++ drop n (drop p b)) ≡ put_in b p s = (put_fits b p s true _ (put_copied b p n s s room long refl) room).1 in
+    let is : put_mid p (end - p) b s ≡ put_in b p s = (put_fits b p s true _ (put_copied b p (end - p) s s room long refl) room).1 in
     rw is record {
       long = put_length b p s room;
-      bytes = λ q _. by_span p n q
+      bytes = λ q _. by_span p (end - p) q
           (λ l g. let e : p + (q - p) ≡ q = omega arith in
-          let k : q - p < n = omega arith in
-          let i : q - p < length (take n (drop p b)) = omega (arith, size) in
+          let k : p + (q - p) < end = omega arith in
+          let i : q - p < length (between p end b) = omega (arith, size) in
           ap (byte_at (put_in b p s)) (sym e) ∙ put_within b p s room (q - p) (omega (arith, long)) ∙ run.bytes (q - p) i
-          ∙ rw (in_span 0 (length (take n (drop p b))) (q - p) (omega arith) (omega arith), in_span p n q l g, part_at d p n (q - p) k, part_at b p n (q - p) k, e) refl)
-          (λ g. rw (before_span p n q g) (put_before b p s room q g))
+          ∙ rw (in_span 0 (length (between p end b)) (q - p) (omega arith) (omega arith), in_span p (end - p) q l g, get_or-between d p end (q - p) 0 k, get_or-between b p end (q - p) 0 k, e) refl)
+          (λ g. rw (before_span p (end - p) q g) (put_before b p s room q g))
           (λ g. let e : p + length s + (q - (p + length s)) ≡ q = omega (arith, long) in
-          rw (behind_span p n q g) (ap (byte_at (put_in b p s)) (sym e) ∙ put_after b p s room (q - (p + length s)) ∙ ap (byte_at b) e));
+          rw (behind_span p (end - p) q g) (ap (byte_at (put_in b p s)) (sym e) ∙ put_after b p s room (q - (p + length s)) ∙ ap (byte_at b) e));
     }
 
 -- all of a list

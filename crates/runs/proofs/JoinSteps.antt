@@ -1,7 +1,7 @@
 -- Joining, a map byte at a time.
 -- Assumes nothing.
 use mathlib.Core.Path.{◌≡◌, sym, ap, ap₂, ◌∙◌, subst}
-use mathlib.Core.Bool.{Bool, true, not, ◌&&◌, ◌||◌}
+use mathlib.Core.Bool.{Bool, not, ◌&&◌, ◌||◌}
 use mathlib.Core.Logic.{⊎_elim}
 use mathlib.Core.List.{List}
 use Prim.Native.Nat.{ℕ, ◌+◌, ◌-◌, ◌*◌, ◌/◌, ◌%◌, ◌^◌, ◌≤◌, ◌<◌}
@@ -11,17 +11,20 @@ use lib.Bits.{bit_and}
 use lib.Count.{ones}
 use lib.Pow.{pow_pos}
 use lib.Dec.{eqb}
-use lib.ListN.{length, take, drop}
+use lib.ListN.{length}
 use Rattle.reason.proofs.Bools.{le_or_lt}
+use Rattle.std.specs.List.{between}
+use Rattle.std.proofs.lemmas.List.Edits.{length-between, get_or-between}
 use Rattle.octets.specs.Numbers.{byte_at}
 use Rattle.positions.specs.Spans.{within, every}
 use Rattle.positions.specs.Map.{is_set, held}
 use Rattle.positions.proofs.BitLaws.{set_none, set_and, set_low, set_high}
-use Rattle.positions.proofs.SpanLaws.{in_span, behind_span, every_same, every_none}
+use Rattle.positions.proofs.SpanLaws.{in_span, behind_span, every_same}
 use Rattle.positions.proofs.MapLaws.{bit_of}
-use Rattle.runs.proofs.Steps.{every_join, part_at, part_long, part_agrees}
+use Rattle.runs.proofs.Steps.{every_join, part_agrees}
 use Rattle.runs.specs.Inner.{bit_agrees, both_agree, MapRun, BufferRun}
-use Rattle.runs.proofs.MarkLaws.{run_narrow, later_same}
+use Rattle.runs.proofs.MarkLaws.{later_same}
+use Rattle.runs.proofs.RunSteps.{run_narrow}
 use Rattle.runs.proofs.CopyLaws.{copy_nothing, copy_then, copy_told}
 
 -- ---- agreeing
@@ -34,14 +37,14 @@ module _ (m b o d : List ℕ) where
 
   -- .. of the parts of both buffers that have those positions
   pub byte_asked : (from end : ℕ) → from % 8 ≡ 0 → from ≤ end → end ≤ from + 8 → end ≤ length b → end ≤ length d
-      → every (bit_agrees (bit_and (byte_at m (from / 8)) (byte_at o (from / 8))) (take (end - from) (drop from b)) 0 (take (end - from) (drop from d)) 0) 0 (length (take (end - from) (drop from b)))
+      → every (bit_agrees (bit_and (byte_at m (from / 8)) (byte_at o (from / 8))) (between from end b) 0 (between from end d) 0) 0 (length (between from end b))
       ≡ every (both_agree m b o d) from (end - from)
   byte_asked from end a low high here there =
       let both = bit_and (byte_at m (from / 8)) (byte_at o (from / 8)) in
-      let s = take (end - from) (drop from b) in
-      let t = take (end - from) (drop from d) in
-      ap (every (bit_agrees both s 0 t 0) 0) (part_long b from end here)
-      ∙ part_agrees both b 0 d from (end - from) s t (omega arith) (part_at b from (end - from)) (λ k h. let e : from + k ≡ from - 0 + k = omega arith in part_at d from (end - from) k h ∙ ap (byte_at d) e)
+      let s = between from end b in
+      let t = between from end d in
+      ap (every (bit_agrees both s 0 t 0) 0) (length-between b from end here)
+      ∙ part_agrees both b 0 d from (end - from) s t (omega arith) (λ k h. get_or-between b from end k 0 (omega arith)) (λ k h. let e : from + k ≡ from - 0 + k = omega arith in get_or-between d from end k 0 (omega arith) ∙ ap (byte_at d) e)
       ∙ byte_agrees from end a low high
 
   -- .. of whole map bytes, and of what is left
@@ -56,9 +59,6 @@ module _ (m b o d : List ℕ) where
   pub by_bytes : (n : ℕ) (r q : Bool) → r ≡ every (both_agree m b o d) 0 (n / 8 * 8) → q ≡ every (both_agree m b o d) (n / 8 * 8) (n - n / 8 * 8)
       → (r && q) ≡ every (both_agree m b o d) 0 n
   by_bytes n r q e f = ap₂ ◌&&◌ e f ∙ bytes_and_rest n
-
-  pub no_rest : (n : ℕ) → n % 8 ≡ 0 → true ≡ every (both_agree m b o d) (n / 8 * 8) (n - n / 8 * 8)
-  no_rest n h = let e : n - n / 8 * 8 ≡ 0 = omega arith in rw e (sym (every_none (both_agree m b o d) (n / 8 * 8)))
 
 -- where no bit is new, none is counted
 pub none_new : (m : List ℕ) (has : ℕ → Bool) (p n : ℕ) (m' : List ℕ) (new : ℕ) → MapRun m has p n m' (ones new) → new ≡ 0 → MapRun m has p n m' 0

@@ -1,4 +1,5 @@
 pub mod MarkLaws
+pub mod RunSteps
 pub mod CopyLaws
 pub mod EightLaws
 pub mod JoinSteps

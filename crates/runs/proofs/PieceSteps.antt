@@ -4,7 +4,7 @@ use mathlib.Core.Path.{◌≡◌, refl, sym, ap, ap₂, ◌∙◌}
 use mathlib.Core.Bool.{Bool, true, not, ◌&&◌, ◌||◌, and_self}
 use mathlib.Core.Logic.{⊎_elim}
 use mathlib.Core.List.{List}
-use Prim.Native.Nat.{ℕ, ◌+◌, ◌-◌, ◌*◌, ◌/◌, ◌%◌, ◌^◌, ◌≤◌, ◌<◌}
+use Prim.Native.Nat.{ℕ, ◌+◌, ◌-◌, ◌*◌, ◌/◌, ◌%◌, ◌^◌, ◌≤◌, ◌<◌, max}
 use native.Mathlib.Omega.{arith}
 use lib.Bits.{bit_and}
 use lib.Pow.{pow_pos}
@@ -12,6 +12,8 @@ use lib.Dec.{eqb}
 use lib.ListN.{length, take, drop}
 use lib.Seq.{get_or-take, get_or-drop}
 use Rattle.reason.proofs.Bools.{le_or_lt}
+use Rattle.std.specs.List.{between}
+use Rattle.std.proofs.lemmas.List.Edits.{length-between, get_or-between}
 use Rattle.octets.specs.Numbers.{byte_at}
 use Rattle.positions.specs.Spans.{within, every}
 use Rattle.positions.specs.Map.{is_set, held}
@@ -20,8 +22,8 @@ use Rattle.positions.proofs.SpanLaws.{in_span, before_span, behind_span, every_s
 use Rattle.positions.proofs.MapLaws.{held_by, full_set}
 use Rattle.runs.specs.Offers.{piece_at, agrees}
 use Rattle.runs.specs.Inner.{up_to, bit_agrees, piece_agrees, both_agree, MapRun}
-use Rattle.runs.proofs.MarkLaws.{run_narrow}
-use Rattle.runs.proofs.Steps.{every_join, every_from, part_at, part_long, part_agrees, rest_agrees, rest_within, next_byte}
+use Rattle.runs.proofs.RunSteps.{run_narrow, runs_on, runs_most}
+use Rattle.runs.proofs.Steps.{every_join, every_from, part_agrees, rest_agrees, rest_within, next_byte}
 use Rattle.runs.proofs.OfferLaws.{piece_agrees_lem}
 
 -- ---- agreeing: the positions of the first map byte, which end at `start`, and those behind them
@@ -30,21 +32,21 @@ module _ (m b : List ℕ) (at : ℕ) (d : List ℕ) (start : ℕ) (is : start �
   ends = rest_within at (at + length d) start is some
 
   head_agrees : (head : List ℕ) → head ≡ take (start - at) d → at + length d ≤ length b → (r : Bool)
-      → r ≡ every (bit_agrees (byte_at m (at / 8) / 2 ^ (at % 8)) (take (start - at) (drop at b)) 0 head 0) 0 (length (take (start - at) (drop at b)))
+      → r ≡ every (bit_agrees (byte_at m (at / 8) / 2 ^ (at % 8)) (between at start b) 0 head 0) 0 (length (between at start b))
       → r ≡ every (piece_agrees m b at d) at (start - at)
   head_agrees head front here r e =
       let asked = byte_at m (at / 8) / 2 ^ (at % 8) in
-      let s = take (start - at) (drop at b) in
+      let s = between at start b in
       let w = ends in
       rest_agrees m b at d at start (omega (arith, w)) w.1 r
       (e
-      ∙ ap (every (bit_agrees asked s 0 head 0) 0) (part_long b at start (omega (arith, w)))
-      ∙ part_agrees asked b at d at (start - at) s head (omega arith) (part_at b at (start - at)) (λ k h. let i : k ≡ at - at + k = omega arith in
+      ∙ ap (every (bit_agrees asked s 0 head 0) 0) (length-between b at start (omega (arith, w)))
+      ∙ part_agrees asked b at d at (start - at) s head (omega arith) (λ k h. get_or-between b at start k 0 (omega arith)) (λ k h. let i : k ≡ at - at + k = omega arith in
       ap (λ (t : List ℕ). byte_at t k) front ∙ get_or-take (start - at) d k 0 h ∙ ap (byte_at d) i))
 
   -- by what calls answered of both
   pub piece_told : (head : List ℕ) → head ≡ take (start - at) d → at + length d ≤ length b → (r : Bool)
-      → r ≡ every (bit_agrees (byte_at m (at / 8) / 2 ^ (at % 8)) (take (start - at) (drop at b)) 0 head 0) 0 (length (take (start - at) (drop at b)))
+      → r ≡ every (bit_agrees (byte_at m (at / 8) / 2 ^ (at % 8)) (between at start b) 0 head 0) 0 (length (between at start b))
       → (n : ℕ) → n + (start - at) ≡ length d → (q : Bool) → q ≡ every (piece_agrees m b at d) start n → (r && q) ≡ agrees m b (piece_at at d)
   piece_told head front here r e n size q f =
       let w = ends in
@@ -106,3 +108,28 @@ module _ (from end asked : ℕ) (low : from ≤ end) (high : end ≤ from / 8 * 
   pub some_held : (m m' : List ℕ) (r : ℕ) → MapRun m (λ q. is_set asked (q - from / 8 * 8)) (from / 8 * 8) 8 m' r → MapRun m (λ q. true) from (end - from) m' r
   some_held m m' r run =
       run_narrow m (λ q. is_set asked (q - from / 8 * 8)) (from / 8 * 8) 8 m' r run (λ q. true) from (end - from) (omega arith) (omega arith) asked_at
+
+-- ---- the positions from `at` on and below `end`, map byte by map byte: how far they are held, and that their count fits
+module _ (m : List ℕ) (at end start : ℕ) (is : start ≡ up_to (at / 8 * 8) end) (some : at < end) (i : ℕ) (m' : List ℕ) (r : ℕ) (run : MapRun m (λ q. true) at (max start (i * 8) - at) m' r) where
+  -- one whole map byte more
+  pub byte_more : start / 8 ≤ i → i < end / 8 → (m'' : List ℕ) (r' : ℕ) → MapRun m' (λ q. true) (i * 8) (i * 8 + 8 - i * 8) m'' r'
+      → MapRun m (λ q. true) at (max start ((i + 1) * 8) - at) m'' (r + r') × (r + r' ≤ max start ((i + 1) * 8) - at)
+  byte_more l g m'' r' next =
+      let w = rest_within at end start is some in
+      let first = next_byte at end start is in
+      let place : at + (max start (i * 8) - at) ≡ i * 8 = omega (arith, w, first) in
+      let size : max start (i * 8) - at + (i * 8 + 8 - i * 8) ≡ max start ((i + 1) * 8) - at = omega (arith, w, first) in (
+        runs_on m (λ q. true) at (max start (i * 8) - at) m' r run (i * 8) (i * 8 + 8 - i * 8) (max start ((i + 1) * 8) - at) place size m'' r' next,
+        runs_most m (λ q. true) at (max start (i * 8) - at) m' r run (i * 8) (i * 8 + 8 - i * 8) (max start ((i + 1) * 8) - at) place size m'' r' next,
+      )
+
+  -- and the rest
+  pub rest_more : end / 8 ≤ i → (start / 8 ≤ end / 8 → i ≤ end / 8) → (rest : ℕ) → rest ≡ max start (end / 8 * 8)
+      → (m'' : List ℕ) (r' : ℕ) → MapRun m' (λ q. true) rest (end - rest) m'' r' → MapRun m (λ q. true) at (end - at) m'' (r + r') × (r + r' ≤ end - at)
+  rest_more l g rest e m'' r' next =
+      let w = rest_within at end start is some in
+      let place : at + (max start (i * 8) - at) ≡ rest = omega (arith, w) in
+      let size : max start (i * 8) - at + (end - rest) ≡ end - at = omega (arith, w) in (
+        runs_on m (λ q. true) at (max start (i * 8) - at) m' r run rest (end - rest) (end - at) place size m'' r' next,
+        runs_most m (λ q. true) at (max start (i * 8) - at) m' r run rest (end - rest) (end - at) place size m'' r' next,
+      )

@@ -9,8 +9,6 @@ use native.Mathlib.Nat.{add-zero, zero-add, add-suc, suc-add, sub-zero}
 use native.Mathlib.Numerals.{add-one}
 use native.Mathlib.Omega.{arith}
 use lib.Dec.{eqb, leb}
-use lib.ListN.{length, take, drop, length-drop}
-use lib.Seq.{length-take-le, get_or-take, get_or-drop}
 use borrow.Author.Tests.{leb-true, leb-false}
 use Rattle.reason.proofs.Bools.{le_or_lt}
 use Rattle.std.specs.List.{range_with_len, list_all}
@@ -56,12 +54,6 @@ all_eights t i (suc n) =
     ∙ ap (every t (i * 8)) size
 
 -- ---- bits of a run that is a part of a buffer
-pub part_at : (b : List ℕ) (p n k : ℕ) → k < n → byte_at (take n (drop p b)) k ≡ byte_at b (p + k)
-part_at b p n k h = get_or-take n (drop p b) k 0 h ∙ get_or-drop p b k 0
-
-pub part_long : (b : List ℕ) (p end : ℕ) → end ≤ length b → length (take (end - p) (drop p b)) ≡ end - p
-part_long b p end h = length-take-le (end - p) (drop p b) (simp length-drop (omega arith))
-
 pub part_agrees : (asked : ℕ) (b : List ℕ) (at : ℕ) (d : List ℕ) (p n : ℕ) (s t : List ℕ) → at ≤ p
     → ((k : ℕ) → k < n → byte_at s k ≡ byte_at b (p + k)) → ((k : ℕ) → k < n → byte_at t k ≡ byte_at d (p - at + k))
     → every (bit_agrees asked s 0 t 0) 0 n ≡ every (bit_agrees asked b at d p) p n

