@@ -22,7 +22,7 @@ use Rattle.positions.specs.declared.Side.{Side}
 use Rattle.positions.specs.declared.Side.TheVariants.{Held, Unheld}
 use Rattle.positions.specs.Spans.{first}
 use Rattle.positions.specs.Map.{is_set, on_side}
-use Rattle.positions.specs.Inner.{side_of, none_of}
+use Rattle.positions.specs.Inner.{side_of}
 use Rattle.positions.proofs.BitLaws.{set_not, set_shr, set_high, some_set}
 use Rattle.positions.proofs.SpanLaws.{passed_over, found, first_is}
 use Rattle.positions.proofs.MapLaws.{held_by, empty_byte, full_byte}
@@ -57,11 +57,11 @@ none_passes : (p : ℕ → Bool) (xs : List ℕ) → position p xs ≡ None → 
 none_passes p xs e = grind (arith, common_steps)
 
 -- a byte of which no position is on the side, and one of which some are
-none_there : (m : List ℕ) (side : Side) (q : ℕ) → byte_at m (q / 8) ≡ none_of side → on_side m side q ≡ false
+none_there : (m : List ℕ) (side : Side) (q : ℕ) → byte_at m (q / 8) ≡ side_of 0 side → on_side m side q ≡ false
 none_there m Held q e = empty_byte m q e
 none_there m Unheld q e = ap not (full_byte m q e)
 
-some_there : (b : ℕ) (side : Side) → b < 256 → (b ≡ none_of side → ⊥) → side_of b side ≡ 0 → ⊥
+some_there : (b : ℕ) (side : Side) → b < 256 → (b ≡ side_of 0 side → ⊥) → side_of b side ≡ 0 → ⊥
 some_there b Held h d e = d e
 some_there b Unheld h d e = d (omega arith)
 
@@ -118,7 +118,7 @@ module _ (m : List ℕ) (all : AllBytes m) (side : Side) where
     bytes = take (end - next) (drop next m)
 
     abbrev pub test : ℕ → Bool
-    test b = not (eqb b (none_of side))
+    test b = not (eqb b (side_of 0 side))
 
     byte_in : (j : ℕ) → j < end - next → byte_at bytes j ≡ byte_at m (next + j)
     byte_in j h = get_or-take (end - next) (drop next m) j 0 h ∙ get_or-drop next m j 0
@@ -126,8 +126,8 @@ module _ (m : List ℕ) (all : AllBytes m) (side : Side) where
     long : length bytes ≡ end - next
     long = length-take-le (end - next) (drop next m) (omega (arith, length-drop next m))
 
-    none_in : (j : ℕ) → j < end - next → test (byte_at bytes j) ≡ false → byte_at m (next + j) ≡ none_of side
-    none_in j h e = sym (byte_in j h) ∙ eqb-true _ (none_of side) (not-false _ e)
+    none_in : (j : ℕ) → j < end - next → test (byte_at bytes j) ≡ false → byte_at m (next + j) ≡ side_of 0 side
+    none_in j h e = sym (byte_in j h) ∙ eqb-true _ (side_of 0 side) (not-false _ e)
 
     pub byte_inside : (i : ℕ) → position test bytes ≡ Some i → i < end - next
     byte_inside i is = omega (arith, long, (position-Some test bytes i 0 is).0)
@@ -139,7 +139,7 @@ module _ (m : List ℕ) (all : AllBytes m) (side : Side) where
 
     -- .. behind positions of which none is on the side
     module _ (from : ℕ) (before : (q : ℕ) → from ≤ q → q < next * 8 → on_side m side q ≡ false) where
-      passed_bytes : (n : ℕ) → ((j : ℕ) → j < n → byte_at m (next + j) ≡ none_of side) → (q : ℕ) → from ≤ q → q < (next + n) * 8
+      passed_bytes : (n : ℕ) → ((j : ℕ) → j < n → byte_at m (next + j) ≡ side_of 0 side) → (q : ℕ) → from ≤ q → q < (next + n) * 8
           → on_side m side q ≡ false
       passed_bytes n none q l g =
           ⊎_elim

@@ -5,12 +5,7 @@ use Rattle.std.specs.Prelude.{ℕ, ◌-◌}
 use Rattle.positions.specs.declared.Side.{Side}
 use Rattle.positions.specs.declared.Side.TheVariants.{Held, Unheld}
 
--- the byte whose set bits are those on the side
+-- the byte whose set bits are those on the side; a byte without any is what it gives for 0
 abbrev pub side_of : ℕ → Side → ℕ
 side_of b Held = b
 side_of b Unheld = 255 - b
-
--- the map byte of which no position is on the side
-abbrev pub none_of : Side → ℕ
-none_of Held = 0
-none_of Unheld = 255

@@ -2,7 +2,7 @@
 ghost use Rattle.std.specs.Prelude.{◌≡◌, not, ◌-◌, ◌*◌, ◌^◌, ◌≤◌, ◌<◌, min, length, eqb, position};
 ghost use Rattle.positions.specs.Spans.{first};
 ghost use Rattle.positions.specs.Map.{is_set, on_side};
-ghost use Rattle.positions.specs.Inner.{side_of, none_of};
+ghost use Rattle.positions.specs.Inner.{side_of};
 
 use super::Side;
 
@@ -24,23 +24,13 @@ fn lowest_set(b: u8) -> usize
     b.trailing_zeros() as usize
 }
 
-// The map byte of which no position is on the side.
-fn none_of(side: Side) -> u8
-    ensures { result ≡ none_of side }
-{
-    match side {
-        Side::Held => 0,
-        Side::Unheld => 255,
-    }
-}
-
-// The first of some map bytes that has a position on the side: its index. It is not put in line, so that its loop is the
-// same short one for every search (docs/PERFORMANCE.md).
+// The first of some map bytes that has a position on the side: its index. The byte that has none is what `side_of` gives
+// for 0. It is not put in line, so that its loop is the same short one for every search (docs/PERFORMANCE.md).
 #[inline(never)]
 fn first_byte(bytes: &[u8], side: Side) -> Option<usize>
-    ensures { result ≡ position (λ b. not (eqb b (none_of side))) bytes.now }
+    ensures { result ≡ position (λ b. not (eqb b (side_of 0 side))) bytes.now }
 {
-    let none = none_of(side);
+    let none = side_of(0, side);
     bytes.iter().position(|b| *b != none)
 }
 
