@@ -25,7 +25,7 @@ use Rattle.ax25.specs.Address.{all_spaces, padded, is_name, is_writable, six_at,
 use Rattle.ax25.specs.Head.{head_length, head_checks, head_of, head_bytes}
 use Rattle.ax25.specs.Information.{information_of}
 use Rattle.ax25.specs.Bits.{address_with, head_with, byte_with, frame_with}
-use Rattle.ax25.proofs.SpellingLaws.{number_of_writable}
+use Rattle.ax25.proofs.SpellingLaws.{number_of_writable, six_places}
 use Rattle.ax25.proofs.HeadLaws.{reads_1}
 
 -- a byte with another bit 7: its other bits stay
@@ -45,7 +45,7 @@ last_stays bit x = omega arith
 -- two addresses whose bytes differ in that bit alone: one is right exactly if the other is, and they spell the same but for the bit
 module _ (s t : List ℕ) (at bit : ℕ) (same : (k : ℕ) → k < 6 → byte_at t (at + k) ≡ byte_at s (at + k)) (ssid : byte_at t (at + 6) ≡ bit * 128 + byte_at s (at + 6) % 128) where
   six_alike : six_at t at ≡ six_at s at
-  six_alike = values_same _ _ 0 6 same
+  six_alike = six_places t at ∙ values_same _ _ 0 6 same ∙ sym (six_places s at)
 
   spelled_alike : address_at t at ≡ address_with bit (address_at s at)
   unfolding address_at

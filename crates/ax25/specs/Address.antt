@@ -51,7 +51,7 @@ address_bytes role a = values_from (λ k. byte_at (characters_of a) k * 2) 0 6 +
 
 -- the six bytes from a place on
 abbrev pub six_at : List ℕ → ℕ → List ℕ
-six_at s at = values_from (λ k. byte_at s (at + k)) 0 6
+six_at s at = values_from (byte_at s) at 6
 
 -- what the seven bytes from a place on spell
 unfoldable pub address_at : List ℕ → ℕ → Address

@@ -52,6 +52,7 @@ pub struct Head {
 
 // Whether an address can be written: characters A–Z and 0–9, spaces after the last of them only, not
 // all spaces, a number of at most 15, and a bit 7 of 0 or 1.
+#[tactic(auto, unfolding(crate::specs::Address::is_writable))]
 pub fn writable(a: Address) -> bool
     ensures { result ≡ is_writable a }
 {
@@ -60,6 +61,7 @@ pub fn writable(a: Address) -> bool
 
 // The address in the seven bytes of s from a place on; refuses 2. Bytes beyond the end of s are
 // no address.
+#[tactic(auto, using(crate::proofs::SpellingLaws::address_reading))]
 pub fn read_address(s: &[u8], at: usize, role: Role) -> Result<Address, Reason>
     ensures { answer_of result ≡ read_address role s.now at }
 {
@@ -85,6 +87,7 @@ pub fn write_address(out: &mut [u8], at: usize, a: Address, role: Role) -> Resul
 }
 
 // The head of a frame whose protocol is the one named; refuses 1 (below 16), 2, 3, 4, 7 (over 255).
+#[tactic(auto, using(crate::proofs::HeadLaws::head_reading), unfolding(crate::specs::Head::head_of))]
 pub fn read_head(frame: &[u8], protocol: u8) -> Result<Head, Reason>
     ensures { answer_of result ≡ read_head protocol frame.now }
 {

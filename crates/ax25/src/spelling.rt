@@ -1,7 +1,7 @@
 // How an address is spelled in seven bytes.
 ghost use Rattle.std.specs.Prelude.{◌≡◌, true, ◌+◌, ◌≤◌, length};
 ghost use Rattle.reason.specs.Answer.{answer_of};
-ghost use Rattle.ax25.specs.Address.{is_character, is_name, is_writable, address_bytes, read_address};
+ghost use Rattle.ax25.specs.Address.{is_character, all_spaces, padded, is_name, is_writable, address_bytes, address_at, low_bits_clear, ssid_right, read_address};
 
 use crate::{Address, Role};
 use reason::Reason;
@@ -13,33 +13,66 @@ fn is_character(c: u8) -> bool
     matches!(c, b'A'..=b'Z' | b'0'..=b'9')
 }
 
+// Whether nothing stands there but spaces.
+fn all_spaces(characters: &[u8]) -> bool
+    ensures { result ≡ all_spaces characters.now }
+{
+    characters.iter().all(|c| *c == b' ')
+}
+
+// Whether characters stand there, padded at the end with spaces.
+fn padded(characters: &[u8]) -> bool
+    ensures { result ≡ padded characters.now }
+{
+    characters
+        .iter()
+        .skip_while(|c| is_character(**c))
+        .all(|c| *c == b' ')
+}
+
 // Whether an address's six characters are a name: padded at the end with spaces, not all spaces.
+#[tactic(auto, unfolding(crate::specs::Address::is_name))]
 pub(crate) fn is_name(a: Address) -> bool
     ensures { result ≡ is_name a }
 {
-    is_character(a.characters[0])
-        && a.characters
-            .iter()
-            .skip_while(|c| is_character(**c))
-            .all(|c| *c == b' ')
+    padded(&a.characters) && !all_spaces(&a.characters)
+}
+
+// Whether each of the six bytes of s from a place on has its lowest bit clear.
+fn low_bits_clear(s: &[u8], at: usize) -> bool
+    ensures { result ≡ low_bits_clear s.now at }
+{
+    octets::array::<6>(s, at).iter().all(|b| b % 2 == 0)
+}
+
+// Whether an SSID byte has bits 6 and 5 set, and the role's bit 0.
+fn ssid_right(ssid: u8, role: Role) -> bool
+    ensures { result ≡ ssid_right role ssid }
+{
+    ssid / 32 % 4 == 3 && ssid % 2 == role as u8
+}
+
+// What the seven bytes of s from a place on spell.
+fn spelled(s: &[u8], at: usize) -> Address
+    requires { at + 7 ≤ length s.now }
+    ensures { result ≡ address_at s.now at }
+{
+    let ssid = s[at + 6];
+    Address {
+        characters: octets::array(s, at).map(|b| b >> 1),
+        number: ssid / 2 % 16,
+        bit7: ssid / 128,
+    }
 }
 
 // The address in the seven bytes of s from a place on, or reason 2.
+#[tactic(auto, using(crate::proofs::SpellingLaws::address_reading), unfolding(crate::specs::Address::well_formed))]
 pub(crate) fn read(s: &[u8], at: usize, role: Role) -> Result<Address, Reason>
     requires { at + 7 ≤ length s.now }
     ensures { answer_of result ≡ read_address role s.now at }
 {
-    let name = octets::array::<6>(s, at);
-    let ssid = s[at + 6];
-    let a = Address {
-        characters: name.map(|b| b / 2),
-        number: ssid / 2 % 16,
-        bit7: ssid / 128,
-    };
-    let even = name.iter().all(|b| b % 2 == 0);
-    let right = ssid / 32 % 4 == 3 && ssid % 2 == role as u8;
-    let named = is_name(a);
-    if even && right && named {
+    let a = spelled(s, at);
+    if low_bits_clear(s, at) && ssid_right(s[at + 6], role) && is_name(a) {
         Ok(a)
     } else {
         Err(Reason::Address)
@@ -47,6 +80,7 @@ pub(crate) fn read(s: &[u8], at: usize, role: Role) -> Result<Address, Reason>
 }
 
 // The seven bytes of an address that can be written.
+#[tactic(auto, using(crate::proofs::SpellingLaws::writable_bounds))]
 pub(crate) fn bytes_of(a: Address, role: Role) -> [u8; 7]
     requires { is_writable a ≡ true }
     ensures { result ≡ address_bytes role a }

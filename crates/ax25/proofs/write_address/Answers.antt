@@ -1,7 +1,7 @@
 -- `ax25::write_address` meets its contract: `writable` says whether it is 2, and `put` whether it is 12.
 -- Assumes nothing.
 use mathlib.Core.Path.{◌≡◌, refl, sym}
-use mathlib.Core.Bool.{Bool, true, false}
+use mathlib.Core.Bool.{true, false}
 use mathlib.Core.List.{List}
 use Prim.Native.Nat.{ℕ}
 use Rattle.std.specs.Prelude.{Ok, Err}
@@ -17,32 +17,25 @@ use Rattle.ax25.proofs.WriteLaws.{address_2, address_12, address_written}
 use Rattle.ax25.proofs.write_address.Goals as goal
 
 module _ (role : Role) (out : List ℕ) (at : ℕ) (a : address.Address) where
-  malformed : false ≡ is_writable a → Writes out (write_address role out at a) (Err Address) out
-  malformed g = writes_refused out (write_address role out at a) out Address (address_2 role out at a (sym g)) refl
+  malformed : is_writable a ≡ false → Writes out (write_address role out at a) (Err Address) out
+  malformed g = writes_refused out (write_address role out at a) out Address (address_2 role out at a g) refl
 
-  module _ (g : true ≡ is_writable a) (run : List ℕ) (is : run ≡ address_bytes role a) (left : List ℕ) where
-    put_it : (r : Bool) → Put out at run r left → Put out at (address_bytes role a) r left
-    put_it r p = rw is at p
-
-    written : Put out at run true left → Writes out (write_address role out at a) (Ok tt) left
+  module _ (left : List ℕ) (g : is_writable a ≡ true) where
+    written : Put out at (address_bytes role a) true left → Writes out (write_address role out at a) (Ok tt) left
     written p =
-        let k = put_told out at (address_bytes role a) true left (put_it true p) true refl in
-        writes_accepted out (write_address role out at a) left _ (address_written role out at a (sym g) k.0) k.1
+        let k = put_told out at (address_bytes role a) true left p true refl in
+        writes_accepted out (write_address role out at a) left _ (address_written role out at a g k.0) k.1
 
-    short : Put out at run false left → Writes out (write_address role out at a) (Err Space) left
+    short : Put out at (address_bytes role a) false left → Writes out (write_address role out at a) (Err Space) left
     short p =
-        let k = put_told out at (address_bytes role a) false left (put_it false p) false refl in
-        writes_refused out (write_address role out at a) left Space (address_12 role out at a (sym g) k.0) k.1
+        let k = put_told out at (address_bytes role a) false left p false refl in
+        writes_refused out (write_address role out at a) left Space (address_12 role out at a g k.0) k.1
 
 pub returns-then-not-writable : goal.returns-then-not-writable
-returns-then-not-writable c = let a = c.args in malformed a.role a.out.now a.at a.a c.if-not-writable.ensures
+returns-then-not-writable c = malformed _ _ _ _ (sym c.if-not-writable.ensures)
 
 pub returns-then-put : goal.returns-then-put
-returns-then-put c =
-    let a = c.args in
-    written a.role a.out.now a.at a.a c.if-not-writable.ensures _ c.bytes_of-bytes.ensures c.put.new.out c.if-put.ensures
+returns-then-put c = written _ _ _ _ _ (sym c.if-not-writable.ensures) (rw c.bytes_of-bytes.ensures at c.if-put.ensures)
 
 pub returns-else-put : goal.returns-else-put
-returns-else-put c =
-    let a = c.args in
-    short a.role a.out.now a.at a.a c.if-not-writable.ensures _ c.bytes_of-bytes.ensures c.put.new.out c.if-put.ensures
+returns-else-put c = short _ _ _ _ _ (sym c.if-not-writable.ensures) (rw c.bytes_of-bytes.ensures at c.if-put.ensures)

@@ -27,29 +27,22 @@ module _ (out : List ℕ) (d s : address.Address) (protocol : ℕ) where
     short : length out < 16 → Writes out (write_head out d s protocol) (Err Space) out
     short l = writes_refused out (write_head out d s protocol) out Space (head_12 out d s protocol good l) refl
 
-    written : 16 ≤ length out → (to from l1 l2 l3 : List ℕ) (p q r : Bool) → to ≡ address_bytes Destination d → from ≡ address_bytes Source s
-        → Put out 0 to p l1 → Put l1 7 from q l2 → Put l2 14 (control ∷ protocol ∷ []) r l3 → Writes out (write_head out d s protocol) (Ok tt) l3
+    written : 16 ≤ length out → (l1 l2 l3 : List ℕ) (p q r : Bool) → Put out 0 (address_bytes Destination d) p l1
+        → Put l1 7 (address_bytes Source s) q l2 → Put l2 14 (control ∷ protocol ∷ []) r l3 → Writes out (write_head out d s protocol) (Ok tt) l3
     unfolding head_bytes
-    written l to from l1 l2 l3 p q r dt sf first second third =
-        let e1 : l1 ≡ put_in out 0 (address_bytes Destination d) = (put_fits out 0 _ p l1 (rw dt at first) (omega arith)).1 in
-        let e2 : l2 ≡ put_in out 0 (address_bytes Destination d ++ address_bytes Source s) = put_more out 0 _ _ l1 q l2 e1 (rw sf at second) (omega arith) in
+    written l l1 l2 l3 p q r first second third =
+        let e1 : l1 ≡ put_in out 0 (address_bytes Destination d) = (put_fits out 0 _ p l1 first (omega arith)).1 in
+        let e2 : l2 ≡ put_in out 0 (address_bytes Destination d ++ address_bytes Source s) = put_more out 0 _ _ l1 q l2 e1 second (omega arith) in
         let e3 : l3 ≡ put_in out 0 (head_bytes d s protocol) = put_more out 0 _ _ l2 r l3 e2 third (omega arith) in
         writes_accepted out (write_head out d s protocol) l3 _ (head_written out d s protocol good l) e3
 
 pub returns-then-not-writable : goal.returns-then-not-writable
-returns-then-not-writable c =
-    let a = c.args in
-    let bad : (is_writable a.head.destination && is_writable a.head.source) ≡ false = grind arith in
-    malformed a.out.now a.head.destination a.head.source a.protocol bad
+returns-then-not-writable c = malformed _ _ _ _ (grind arith)
 
 pub returns-then-out-lt-HEAD_LENGTH : goal.returns-then-out-lt-HEAD_LENGTH
-returns-then-out-lt-HEAD_LENGTH c =
-    let a = c.args in
-    let good : (is_writable a.head.destination && is_writable a.head.source) ≡ true = grind arith in
-    short a.out.now a.head.destination a.head.source a.protocol good c.if-out-lt-HEAD_LENGTH.true
+returns-then-out-lt-HEAD_LENGTH c = short _ _ _ _ (grind arith) c.if-out-lt-HEAD_LENGTH.true
 
 pub returns : goal.returns
 returns c =
-    let a = c.args in
-    let good : (is_writable a.head.destination && is_writable a.head.source) ≡ true = grind arith in
-    written a.out.now a.head.destination a.head.source a.protocol good c.if-out-lt-HEAD_LENGTH.false _ _ _ _ _ c.put.result c.put-2.result c.put-3.result c.bytes_of-to.ensures c.bytes_of-from.ensures c.put.ensures c.put-2.ensures c.put-3.ensures
+    written _ _ _ _ (grind arith) c.if-out-lt-HEAD_LENGTH.false _ _ _ _ _ _ (rw c.bytes_of-to.ensures at c.put.ensures)
+    (rw c.bytes_of-from.ensures at c.put-2.ensures) c.put-3.ensures

@@ -5,26 +5,8 @@ use lib.Seq.{ext_get_or}
 use Rattle.octets.specs.Numbers.{byte_at}
 use Rattle.octets.specs.Values.{values_from}
 use Rattle.octets.proofs.ValueLaws.{value_at}
-use Rattle.ax25.proofs.SpellingLaws.{character_of_writable, number_of_writable, bit_of_writable}
+use Rattle.ax25.proofs.SpellingLaws.{character_of_writable}
 use Rattle.ax25.proofs.spelling.bytes_of.Goals as goal
-
-pub overflow_mul-ssid : goal.overflow_mul-ssid
-overflow_mul-ssid c = omega (arith, bit_of_writable c.args.a c.requires)
-
-pub overflow_add-ssid : goal.overflow_add-ssid
-overflow_add-ssid c = omega (arith, bit_of_writable c.args.a c.requires)
-
-pub overflow_mul-ssid-2 : goal.overflow_mul-ssid-2
-overflow_mul-ssid-2 c = omega (arith, number_of_writable c.args.a c.requires)
-
-pub overflow_add-ssid-2 : goal.overflow_add-ssid-2
-overflow_add-ssid-2 c = omega (arith, bit_of_writable c.args.a c.requires, number_of_writable c.args.a c.requires)
-
-pub overflow_add-ssid-3 : goal.overflow_add-ssid-3
-overflow_add-ssid-3 c =
-    let bit = bit_of_writable c.args.a c.requires in
-    let number = number_of_writable c.args.a c.requires in
-    grind arith
 
 pub returns : goal.returns
 returns c =
