@@ -23,12 +23,14 @@ pub const MOST_INFORMATION: usize = 255;
 pub const CONTROL: u8 = 0x03;
 
 // The protocols: of file pieces and fill requests, and of directory entries.
+// Kept: bytes and no enum, since reading and writing a head take every byte as the protocol that they are to find or to write.
 pub const FILE_PROTOCOL: u8 = 0xBB;
 
 pub const DIRECTORY_PROTOCOL: u8 = 0xBD;
 
 // An address: a station's six characters, padded at the end with spaces, the number of its SSID, and bit 7 of the SSID byte,
 // 0 or 1, which is told and written as it is and decides nothing.
+// Kept: bytes for the number and the bit, since narrower types would take fewer addresses (`Cases`: `number_16`, `bit_of_2`).
 #[derive(Clone, Copy, Debug, PartialEq, Eq)]
 pub struct Address {
     pub characters: [u8; 6],

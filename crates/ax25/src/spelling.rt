@@ -1,7 +1,7 @@
 // How an address is spelled in seven bytes.
 ghost use Rattle.std.specs.Prelude.{◌≡◌, true, ◌+◌, ◌≤◌, length};
 ghost use Rattle.reason.specs.Answer.{answer_of};
-ghost use Rattle.ax25.specs.Address.{is_character, all_spaces, padded, is_name, is_writable, address_bytes, address_at, low_bits_clear, ssid_right, read_address};
+ghost use Rattle.ax25.specs.Address.{is_character, is_name, is_writable, address_bytes, address_at, low_bits_clear, ssid_right, read_address};
 
 use crate::{Address, Role};
 use reason::Reason;
@@ -10,32 +10,22 @@ use reason::Reason;
 fn is_character(c: u8) -> bool
     ensures { result ≡ is_character c }
 {
-    matches!(c, b'A'..=b'Z' | b'0'..=b'9')
+    c.is_ascii_uppercase() || c.is_ascii_digit()
 }
 
-// Whether nothing stands there but spaces.
-fn all_spaces(characters: &[u8]) -> bool
-    ensures { result ≡ all_spaces characters.now }
-{
-    characters.iter().all(|c| *c == b' ')
-}
-
-// Whether characters stand there, padded at the end with spaces.
-fn padded(characters: &[u8]) -> bool
-    ensures { result ≡ padded characters.now }
-{
-    characters
-        .iter()
-        .skip_while(|c| is_character(**c))
-        .all(|c| *c == b' ')
-}
-
-// Whether an address's six characters are a name: padded at the end with spaces, not all spaces.
-#[tactic(auto, unfolding(crate::specs::Address::is_name))]
+// Whether an address's six characters are a name: padded at the end with spaces, not all spaces. From the last character to the
+// first, `blank` says that it and all after it are spaces, and `padded` that they are characters and then only spaces.
+#[tactic(auto, using(std::proofs::lemmas::List::nil_from_length), unfolding(crate::specs::Address::is_name))]
 pub(crate) fn is_name(a: Address) -> bool
     ensures { result ≡ is_name a }
 {
-    padded(&a.characters) && !all_spaces(&a.characters)
+    let mut blank = true;
+    let mut padded = true;
+    for c in a.characters.iter().rev() {
+        blank = (*c == b' ') & blank;
+        padded = is_character(*c) & padded | blank;
+    }
+    padded && !blank
 }
 
 // Whether each of the six bytes of s from a place on has its lowest bit clear.
@@ -59,7 +49,7 @@ fn spelled(s: &[u8], at: usize) -> Address
 {
     let ssid = s[at + 6];
     Address {
-        characters: octets::array(s, at).map(|b| b >> 1),
+        characters: std::array::from_fn(|k| s[at + k] >> 1),
         number: ssid / 2 % 16,
         bit7: ssid / 128,
     }
