@@ -1,7 +1,7 @@
 -- Joining, a map byte at a time.
 -- Assumes nothing.
 use mathlib.Core.Path.{◌≡◌, sym, ap, ap₂, ◌∙◌, subst}
-use mathlib.Core.Bool.{Bool, not, ◌&&◌, ◌||◌}
+use mathlib.Core.Bool.{Bool, true, false, not, ◌&&◌, ◌||◌}
 use mathlib.Core.Logic.{⊎_elim}
 use mathlib.Core.List.{List}
 use Prim.Native.Nat.{ℕ, ◌+◌, ◌-◌, ◌*◌, ◌/◌, ◌%◌, ◌^◌, ◌≤◌, ◌<◌}
@@ -12,6 +12,7 @@ use lib.Count.{ones}
 use lib.Pow.{pow_pos}
 use lib.Dec.{eqb}
 use lib.ListN.{length}
+use borrow.Author.Tests.{not-true}
 use Rattle.reason.proofs.Bools.{le_or_lt}
 use Rattle.std.specs.List.{between}
 use Rattle.std.proofs.lemmas.List.Edits.{length-between, get_or-between}
@@ -19,7 +20,7 @@ use Rattle.octets.specs.Numbers.{byte_at}
 use Rattle.positions.specs.Spans.{within, every}
 use Rattle.positions.specs.Map.{is_set, held}
 use Rattle.positions.proofs.BitLaws.{set_none, set_and, set_low, set_high}
-use Rattle.positions.proofs.SpanLaws.{in_span, behind_span, every_same}
+use Rattle.positions.proofs.SpanLaws.{in_span, behind_span, every_same, part_fails}
 use Rattle.positions.proofs.MapLaws.{bit_of}
 use Rattle.runs.proofs.Steps.{every_join, part_agrees}
 use Rattle.runs.specs.Inner.{bit_agrees, both_agree, MapRun, BufferRun}
@@ -34,6 +35,13 @@ module _ (m b o d : List ℕ) where
   byte_agrees from end a low high =
       every_same (bit_agrees (bit_and (byte_at m (from / 8)) (byte_at o (from / 8))) b 0 d from) (both_agree m b o d) from (end - from)
       (λ q l g. ap₂ (λ (w : Bool) (x : ℕ). not w || eqb (byte_at b q) (byte_at d x)) (set_and (byte_at m (from / 8)) (byte_at o (from / 8)) (q - from) ∙ ap₂ ◌&&◌ (bit_of m from q a l (omega arith)) (bit_of o from q a l (omega arith))) (sub-zero q))
+
+  -- where a call answered that they do not, no more positions do
+  pub byte_fails : (from end n : ℕ) → from % 8 ≡ 0 → from ≤ end → end ≤ from + 8 → end ≤ n
+      → (r : Bool) → r ≡ every (bit_agrees (bit_and (byte_at m (from / 8)) (byte_at o (from / 8))) b 0 d from) from (end - from) → not r ≡ true
+      → every (both_agree m b o d) 0 n ≡ false
+  byte_fails from end n a low high h r e f =
+      part_fails (both_agree m b o d) 0 n from (end - from) (omega arith) (omega arith) (sym (byte_agrees from end a low high) ∙ sym e ∙ not-true r f)
 
   -- .. of the parts of both buffers that have those positions
   pub byte_asked : (from end : ℕ) → from % 8 ≡ 0 → from ≤ end → end ≤ from + 8 → end ≤ length b → end ≤ length d
