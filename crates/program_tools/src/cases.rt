@@ -62,12 +62,8 @@ impl Case {
     pub fn expected(&self) -> [u32; 4]
         ensures { result ≡ take 4 (drop 26 self.now.numbers) }
     {
-        [
-            self.numbers[26],
-            self.numbers[27],
-            self.numbers[28],
-            self.numbers[29],
-        ]
+        let [.., reason, first, second, third, _, _] = self.numbers;
+        [reason, first, second, third]
     }
 
     // What is told of a call on a reception: two numbers that are handed in, the first three bytes of its map as one

@@ -1,6 +1,7 @@
 // Faults that are planted in one call or frame: two of a kind, or one of them alone.
 ghost use Rattle.std.specs.Prelude.{◌≡◌, if◌then◌else◌};
 ghost use Rattle.program_tools.specs.Planted.{is_planted};
+ghost use Rattle.program_tools.specs.Show.{names_of};
 
 use std::fmt;
 
@@ -29,6 +30,8 @@ impl<F: Copy + PartialEq> Planted<F> {
 
 // The name of the one, or of both.
 impl<F: Copy + PartialEq + fmt::Display> fmt::Display for Planted<F> {
+    ghost output = { λ x. names_of (F.eq x.first x.second) (F.output x.first) (F.output x.second) };
+
     fn fmt<W: fmt::Write>(&self, f: &mut fmt::Formatter<W>) -> fmt::Result {
         let first = self.first;
         let second = self.second;
