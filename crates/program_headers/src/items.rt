@@ -26,10 +26,10 @@ pub(crate) enum Items {
 
 // A header of the items, whose last bytes are those of `tail`: other items and the end item.
 pub(crate) fn header(alloc: Global, items: Items, tail: &[u8]) -> Result<Vec<u8>, AllocError> {
-    let open = valued(alloc, items, tail, 0, 0)?;
-    let body = (open.len() % 65536) as u16;
-    let sum = figure::sum(&valued(alloc, items, tail, 0, body)?);
-    valued(alloc, items, tail, sum, body)
+    let open = valued(alloc, items, tail, [0; 2], [0; 2])?;
+    let body = octets::bytes::<2>(open.len() as u64);
+    let sum = figure::sum(&valued(alloc, items, tail, [0; 2], body)?);
+    valued(alloc, items, tail, sum.to_le_bytes(), body)
 }
 
 // The same with the values of items 0A and 0B given.
@@ -37,8 +37,8 @@ fn valued(
     alloc: Global,
     items: Items,
     tail: &[u8],
-    sum: u16,
-    body: u16,
+    sum: [u8; 2],
+    body: [u8; 2],
 ) -> Result<Vec<u8>, AllocError> {
     let mut header = Vec::new(alloc);
     header.extend_from_slice(b"\xAA\x55")?;
@@ -61,33 +61,38 @@ fn valued(
 }
 
 // An item of the figure, of items 0A and 0B with the values.
-fn item_bytes(alloc: Global, item: Item, sum: u16, body: u16) -> Result<Vec<u8>, AllocError> {
+fn item_bytes(
+    alloc: Global,
+    item: Item,
+    sum: [u8; 2],
+    body: [u8; 2],
+) -> Result<Vec<u8>, AllocError> {
     let mut bytes = item.bytes().to_vec(alloc)?;
     if item.id == 0x0A {
-        octets::put(&mut bytes, 3, &sum.to_le_bytes());
+        octets::put(&mut bytes, 3, &sum);
     }
     if item.id == 0x0B {
-        octets::put(&mut bytes, 3, &body.to_le_bytes());
+        octets::put(&mut bytes, 3, &body);
     }
     Ok(bytes)
 }
 
 // A part that stands for an item, behind what there is of a header.
 fn stand(header: &mut Vec<u8>, item: &[u8], part: Part) -> Result<(), AllocError> {
-    let size = made::behind(item, 3).len();
+    let size = octets::byte(item, 2);
     match part {
         Part::Nothing => Ok(()),
         Part::Same => header.extend_from_slice(item),
-        Part::Longer => resized(header, item, size + 1),
+        Part::Longer => resized(header, item, size.saturating_add(1)),
         Part::Shorter => resized(header, item, size.saturating_sub(1)),
         Part::Zeros => resized(header, made::first(item, 2), size),
     }
 }
 
 // An item with n bytes of data, behind what there is of a header: zeros stand behind its own.
-fn resized(header: &mut Vec<u8>, item: &[u8], n: usize) -> Result<(), AllocError> {
+fn resized(header: &mut Vec<u8>, item: &[u8], n: u8) -> Result<(), AllocError> {
     header.extend_from_slice(made::first(item, 2))?;
-    header.push((n % 256) as u8)?;
+    header.push(n)?;
     let data = made::behind(item, 3).iter().copied();
-    header.extend(data.chain(std::iter::repeat(0)).take(n))
+    header.extend(data.chain(std::iter::repeat(0)).take(usize::from(n)))
 }

@@ -37,11 +37,15 @@ ended_of b cell value r =
       tally = r.tally;
     }
 
+-- a number with one digit more
+abbrev pub digit_read : ℕ → ℕ → ℕ
+digit_read b value = (value % 429496730 * 10 + b % 16) % 2 ^ 32
+
 -- one letter more of a number: a digit, or the end of it
 abbrev pub number_of : ℕ → ℕ → ℕ → Reading → Reading
 number_of b cell value r =
     cond (nat_le 48 b && nat_le b 57)
-    (record r { place = Number cell ((value % 429496730 * 10 + b % 16) % 2 ^ 32) })
+    (record r { place = Number cell (digit_read b value) })
     (ended_of b cell value r)
 
 -- one letter more of a name, which a colon (58) ends

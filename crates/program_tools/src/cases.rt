@@ -21,7 +21,7 @@
 // the second; in an entry d is the length of the information without the check.
 ghost use Rattle.std.specs.Prelude.{◌≡◌, ◌+◌, ◌%◌, slice_index, take, drop};
 ghost use Rattle.program_tools.specs.Made.{changes_of, left_of};
-ghost use Rattle.program_tools.specs.Cases.{start, next_of, name_of, number_of, ended_of, cell_of, is_shown, differing, counted, answered_of};
+ghost use Rattle.program_tools.specs.Cases.{start, next_of, name_of, number_of, ended_of, cell_of, is_shown, answered_of};
 
 use crate::made;
 use std::io;
@@ -92,18 +92,6 @@ impl Case {
 pub struct Tally {
     pub cases: u32,
     pub differ: u32,
-}
-
-impl Tally {
-    // A tally with one case more.
-    fn with(self, differs: bool) -> Self
-        ensures { result ≡ counted self differs }
-    {
-        Tally {
-            cases: self.cases.wrapping_add(1),
-            differ: self.differ.wrapping_add(u32::from(differs)),
-        }
-    }
 }
 
 // Where in the lines the reading is.
@@ -229,10 +217,15 @@ impl Reading {
     pub fn answered(self, got: [u32; 4]) -> Self
         ensures { result ≡ answered_of self got }
     {
+        let differs = self.case.expected() != got;
+        let tally = Tally {
+            cases: self.tally.cases.wrapping_add(1),
+            differ: self.tally.differ.wrapping_add(u32::from(differs)),
+        };
         Reading {
             case: self.usual,
             place: Place::Name,
-            tally: self.tally.with(self.case.expected() != got),
+            tally,
             ..self
         }
     }
@@ -268,7 +261,8 @@ where
     println!(rt; "{} cases, {} differ", tally.cases, tally.differ)
 }
 
-// Reads lines letter by letter, and runs their cases.
+// Reads lines, and runs their cases.
+// Kept: letter by letter, since a last line without its end is not run, and a byte that is no text is printed as it is (`next_of`).
 fn read<R, F>(rt: &R, text: &[u8], operation: F) -> io::Result<Tally>
 where
     R: Print,

@@ -103,7 +103,8 @@ pub fn changed(bytes: &[u8], before: &[u8]) -> u32
 pub fn map(bits: u32, rest: u32) -> [u8; 4200]
     ensures { result ≡ map_by bits rest }
 {
-    let mut map = [(rest % 256) as u8; 4200];
+    let [byte, ..] = rest.to_le_bytes();
+    let mut map = [byte; 4200];
     octets::put(&mut map, 0, &octets::bytes::<3>(u64::from(bits)));
     map
 }
@@ -119,6 +120,7 @@ pub fn buffer(place: u32) -> [u8; 33000]
 }
 
 // The byte of rubbish at a place; rubbish of another kind has other bytes.
+// Kept: a remainder and a cast, since products that wrap byte by byte say the same in four calls.
 pub fn rubbish(at: usize, kind: usize) -> u8
     ensures { result ≡ rubbish_at at kind }
 {
