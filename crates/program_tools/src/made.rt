@@ -2,40 +2,7 @@
 // answers for all arguments.
 ghost use Rattle.std.specs.Prelude.{◌≡◌, ◌+◌, ◌/◌, ◌++◌, take, drop};
 ghost use Rattle.octets.specs.Numbers.{bytes_of};
-ghost use Rattle.program_tools.specs.Made.{cut_to, with_run, summed_with, sum_from, turned, and_one, changed_from, map_by, buffer_by, rubbish_at};
-
-// Bytes that are made: the first `size` of `bytes`, and what lies behind them.
-#[derive(Clone, Copy)]
-pub struct Bytes {
-    pub bytes: [u8; 640],
-    pub size: usize,
-}
-
-// The same bytes, of which n are the first.
-pub fn cut(m: Bytes, n: usize) -> Bytes
-    ensures { result ≡ cut_to m n }
-{
-    let bytes = m.bytes;
-    Bytes { bytes, size: n }
-}
-
-// A run written over what stands at a place, where there is room for it.
-pub fn with(m: Bytes, at: usize, run: &[u8]) -> Bytes
-    ensures { result ≡ with_run m at run.now }
-{
-    let mut bytes = m.bytes;
-    let size = m.size;
-    octets::put(&mut bytes, at, run);
-    Bytes { bytes, size }
-}
-
-// A number of four bytes written over what stands at a place, where there is room for it.
-pub fn with_number(m: Bytes, at: usize, number: u32) -> Bytes
-    ensures { result ≡ with_run m at (bytes_of 4 number) }
-{
-    let run = octets::bytes::<4>(u64::from(number));
-    with(m, at, &run)
-}
+ghost use Rattle.program_tools.specs.Made.{summed_with, sum_from, turned, and_one, changed_from, map_by, buffer_by, rubbish_at};
 
 // The first n bytes of a space, all of them where there are not so many.
 pub fn first(bytes: &[u8], n: usize) -> &[u8]
