@@ -1,8 +1,9 @@
-// What the trial programs share: what lines show, builders of bytes, pairs of faults, and the lines of cases.
+// What the trial programs share: bytes that are made, faults that are planted, what lines show, and cases by name.
 //
-// What is shown by `show` and `planted` says its text in its contract (`specs/Show.antt`, `specs/Planted.antt`); the builders of
-// `made` and the cases of `cases` promise what they answer and what they leave (`specs/Made.antt`, `specs/Cases.antt`). What
-// `cases::run` reads and prints no contract can say: the programs' stored output is compared with it.
+// `cases::run` reads standard input and writes standard output. No contract can say what is read and written, so it
+// promises nothing but to be safe and to end; what the programs write by it is compared with their stored output. Every other
+// function promises what it answers and what it leaves (`specs/Made.antt`, `specs/Planted.antt`, `specs/Cases.antt`), and
+// what is shown its text (`specs/Show.antt`).
 #![tactic(auto)]
 
 pub mod cases;

@@ -1,8 +1,8 @@
-// Builders: parts of a space, a byte or a run changed, and what the lines and the cases are made of. Every function
-// answers for all arguments.
+// Builders: parts of a space, a byte changed, sums and counts that the lines show, and what the cases are made of. Every
+// function answers for all arguments.
 ghost use Rattle.std.specs.Prelude.{◌≡◌, ◌+◌, ◌/◌, ◌++◌, take, drop};
 ghost use Rattle.octets.specs.Numbers.{bytes_of};
-ghost use Rattle.program_tools.specs.Made.{summed_with, sum_from, turned, and_one, changed_from, map_by, buffer_by, rubbish_at};
+ghost use Rattle.program_tools.specs.Made.{summed_with, sum_from, turned, changed_from, map_by, buffer_by, rubbish_at};
 
 // The first n bytes of a space, all of them where there are not so many.
 pub fn first(bytes: &[u8], n: usize) -> &[u8]

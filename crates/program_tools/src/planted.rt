@@ -1,6 +1,6 @@
 // Faults that are planted in one call or frame: two of a kind, or one of them alone.
-ghost use Rattle.std.specs.Prelude.{◌≡◌, if◌then◌else◌};
-ghost use Rattle.program_tools.specs.Planted.{is_planted};
+ghost use Rattle.std.specs.Prelude.{◌≡◌};
+ghost use Rattle.program_tools.specs.Planted.{is_among, chosen};
 ghost use Rattle.program_tools.specs.Show.{names_of};
 
 use std::fmt;
@@ -15,14 +15,14 @@ pub struct Planted<F> {
 impl<F: Copy + PartialEq> Planted<F> {
     // Whether a fault is one of the two.
     pub fn has(self, fault: F) -> bool
-        ensures { result ≡ is_planted F.eq self fault }
+        ensures { result ≡ is_among F.eq self fault }
     {
         self.first == fault || self.second == fault
     }
 
     // The second of two values where a fault is one of the two, else the first.
     pub fn choice<T: Drop>(self, fault: F, right: T, wrong: T) -> T
-        ensures { result ≡ (if is_planted F.eq self fault then wrong else right) }
+        ensures { result ≡ chosen F.eq self fault right wrong }
     {
         if self.has(fault) { wrong } else { right }
     }
