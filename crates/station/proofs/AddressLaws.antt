@@ -11,8 +11,8 @@ use lib.Seq.{take_all, take-append_seam, get_or-append-add}
 use Rattle.octets.specs.Numbers.{byte_at, number_at, bytes_of, AllBytes}
 use Rattle.octets.proofs.NumberLaws.{number_of_bytes, bytes_back, number_below}
 use Rattle.ax25.specs.declared.Address.{Address}
-use Rattle.ax25.specs.Address.{characters_of, is_writable}
-use Rattle.ax25.proofs.SpellingLaws.{six_of_writable, character_of_writable, number_of_writable, bit_of_writable}
+use Rattle.ax25.specs.Address.{characters_of, is_name, is_writable}
+use Rattle.ax25.proofs.SpellingLaws.{name_of_writable, character_of_writable, number_of_writable, bit_of_writable}
 use Rattle.station.specs.AddressNumber.{address_number, address_of}
 
 -- its eight bytes: the characters, the number of its SSID and bit 7
@@ -58,6 +58,12 @@ bytes_of_writable a w =
     and_bytes (characters_of a) (a.number ∷ a.bit7 ∷ []) (λ k. omega (arith, character_of_writable a w k))
     (two_bytes a.number a.bit7 (omega (arith, number_of_writable a w)) (omega (arith, bit_of_writable a w)))
 
+-- it has six characters
+six_of_writable : (a : Address) → is_writable a ≡ true → length (characters_of a) ≡ 6
+unfolding is_name
+six_of_writable a w = let name = name_of_writable a w in grind arith
+
+-- .. and its number tells it back
 pub address_back : (a : Address) → is_writable a ≡ true → address_of (address_number a) ≡ a
 unfolding with_bytes address_of
 address_back a w =
