@@ -4,7 +4,7 @@ use mathlib.Core.Path.{◌≡◌, refl, sym, ap, ap₂, ◌∙◌}
 use mathlib.Core.Bool.{Bool, true, not, ◌&&◌, ◌||◌, and_self}
 use mathlib.Core.Logic.{⊎_elim}
 use mathlib.Core.List.{List}
-use Prim.Native.Nat.{ℕ, ◌+◌, ◌-◌, ◌*◌, ◌/◌, ◌%◌, ◌^◌, ◌≤◌, ◌<◌, max}
+use Prim.Native.Nat.{ℕ, ◌+◌, ◌-◌, ◌*◌, ◌/◌, ◌%◌, ◌^◌, ◌≤◌, ◌<◌}
 use native.Mathlib.Omega.{arith}
 use lib.Bits.{bit_and}
 use lib.Pow.{pow_pos}
@@ -109,27 +109,20 @@ module _ (from end asked : ℕ) (low : from ≤ end) (high : end ≤ from / 8 * 
   some_held m m' r run =
       run_narrow m (λ q. is_set asked (q - from / 8 * 8)) (from / 8 * 8) 8 m' r run (λ q. true) from (end - from) (omega arith) (omega arith) asked_at
 
--- ---- the positions from `at` on and below `end`, map byte by map byte: how far they are held, and that their count fits
-module _ (m : List ℕ) (at end start : ℕ) (is : start ≡ up_to (at / 8 * 8) end) (some : at < end) (i : ℕ) (m' : List ℕ) (r : ℕ) (run : MapRun m (λ q. true) at (max start (i * 8) - at) m' r) where
-  -- one whole map byte more
-  pub byte_more : start / 8 ≤ i → i < end / 8 → (m'' : List ℕ) (r' : ℕ) → MapRun m' (λ q. true) (i * 8) (i * 8 + 8 - i * 8) m'' r'
-      → MapRun m (λ q. true) at (max start ((i + 1) * 8) - at) m'' (r + r') × (r + r' ≤ max start ((i + 1) * 8) - at)
-  byte_more l g m'' r' next =
-      let w = rest_within at end start is some in
-      let first = next_byte at end start is in
-      let place : at + (max start (i * 8) - at) ≡ i * 8 = omega (arith, w, first) in
-      let size : max start (i * 8) - at + (i * 8 + 8 - i * 8) ≡ max start ((i + 1) * 8) - at = omega (arith, w, first) in (
-        runs_on m (λ q. true) at (max start (i * 8) - at) m' r run (i * 8) (i * 8 + 8 - i * 8) (max start ((i + 1) * 8) - at) place size m'' r' next,
-        runs_most m (λ q. true) at (max start (i * 8) - at) m' r run (i * 8) (i * 8 + 8 - i * 8) (max start ((i + 1) * 8) - at) place size m'' r' next,
+-- ---- the positions from `at` on that are held, and some more behind them; that their count fits
+module _ (m : List ℕ) (at i : ℕ) (m' : List ℕ) (r : ℕ) (run : MapRun m (λ q. true) at (i * 8 - at) m' r) (low : at ≤ i * 8) where
+  pub held_more : (p k end : ℕ) → p ≡ i * 8 → p + k ≡ end → (m'' : List ℕ) (r' : ℕ) → MapRun m' (λ q. true) p k m'' r'
+      → MapRun m (λ q. true) at (end - at) m'' (r + r') × (r + r' ≤ end - at)
+  held_more p k end here size m'' r' next =
+      let place : at + (i * 8 - at) ≡ p = omega arith in
+      let all : i * 8 - at + k ≡ end - at = omega arith in (
+        runs_on m (λ q. true) at (i * 8 - at) m' r run p k (end - at) place all m'' r' next,
+        runs_most m (λ q. true) at (i * 8 - at) m' r run p k (end - at) place all m'' r' next,
       )
 
-  -- and the rest
-  pub rest_more : end / 8 ≤ i → (start / 8 ≤ end / 8 → i ≤ end / 8) → (rest : ℕ) → rest ≡ max start (end / 8 * 8)
-      → (m'' : List ℕ) (r' : ℕ) → MapRun m' (λ q. true) rest (end - rest) m'' r' → MapRun m (λ q. true) at (end - at) m'' (r + r') × (r + r' ≤ end - at)
-  rest_more l g rest e m'' r' next =
-      let w = rest_within at end start is some in
-      let place : at + (max start (i * 8) - at) ≡ rest = omega (arith, w) in
-      let size : max start (i * 8) - at + (end - rest) ≡ end - at = omega (arith, w) in (
-        runs_on m (λ q. true) at (max start (i * 8) - at) m' r run rest (end - rest) (end - at) place size m'' r' next,
-        runs_most m (λ q. true) at (max start (i * 8) - at) m' r run rest (end - rest) (end - at) place size m'' r' next,
-      )
+-- where the whole map bytes behind the first one begin, that is so
+pub begun : (at end start i : ℕ) → start ≡ up_to (at / 8 * 8) end → at < end → (start ≡ end → ⊥) → start / 8 ≤ i → (at ≤ i * 8) × (start ≤ end)
+begun at end start i is some more l =
+    let w = rest_within at end start is some in
+    let first = next_byte at end start is in
+    (omega (arith, w, first), w.2)

@@ -57,14 +57,16 @@ fn hold(map: &mut [u8], at: usize, end: usize) -> u32
     }
     let start = byte_end(at, end);
     let mut new = hold_byte(map, at, start);
+    if start == end {
+        return new;
+    }
     for i in start / 8..end / 8 {
         new += hold_byte(map, i * 8, i * 8 + 8);
     }
-    let rest = start.max(end / 8 * 8);
-    if rest == end {
+    if end % 8 == 0 {
         return new;
     }
-    new + hold_byte(map, rest, end)
+    new + hold_byte(map, end / 8 * 8, end)
 }
 
 // Writes the bytes of a piece, and its positions become held; how many were not.
