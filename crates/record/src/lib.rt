@@ -20,6 +20,7 @@ use reason::Reason;
 use reception::{File, LONGEST, Reception};
 
 // The tags of the four fields.
+// Kept: numbers, since a tag is only written and compared as the byte that it is, and an enum would be cast each time.
 const NUMBER_TAG: u8 = 1;
 
 const LENGTH_TAG: u8 = 2;
@@ -88,11 +89,10 @@ pub fn load(saved: &[u8], map: &mut [u8], buffer: &mut [u8]) -> Result<File, Rea
 pub fn read_record(saved: &[u8]) -> Result<File, Reason>
     ensures { answer_of result ≡ read_record saved.now }
 {
-    let file = reading::says(saved);
-    if !reading::is_record(saved, file.length) {
+    if !reading::is_record(saved) {
         return Err(Reason::Record);
     }
-    Ok(file)
+    Ok(reading::says(saved))
 }
 
 // The map of a record that `read_record` has read: the record's own bytes. Of a record that is refused it is

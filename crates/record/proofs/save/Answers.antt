@@ -40,10 +40,9 @@ returns-then-short c =
 pub write-requires : goal.write-requires
 write-requires c =
     let s = lent_in c.args.reception in
-    let right : wrong_length c.args.reception.file.length ≡ false = sym c.wrong_length.ensures ∙ c.if-wrong_length.false in
     let w = room_to_save c.args.reception.file.length c.args.reception.map.now c.args.reception.buffer.now c.args.target.now
     (room _ _ _ _ c.record_length-size.ensures (sym c.short.ensures ∙ c.if-short.false) c.if-target-size.false) in
-    record { length = right; map = w.0; buffer = w.1; target = w.2 }
+    record { room = record { mapped = w.0; buffered = w.1 }; target = w.2 }
 
 pub returns : goal.returns
 returns c =

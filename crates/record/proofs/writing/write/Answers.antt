@@ -2,12 +2,8 @@
 -- Assumes nothing.
 use native.Mathlib.Omega.{arith}
 use Rattle.reception.specs.Reception.{lent_in}
-use Rattle.reception.proofs.OfferLaws.{right_length}
 use Rattle.record.proofs.RecordLaws.{up_to_map, past_map, up_to_buffer, Written, front_put, map_put, tag_put, bytes_put}
 use Rattle.record.proofs.writing.write.Goals as goal
-
-pub before_map-requires : goal.before_map-requires
-before_map-requires c = (right_length c.args.reception.file.length c.requires.length).1
 
 pub put_map-requires : goal.put_map-requires
 put_map-requires c =
@@ -15,10 +11,7 @@ put_map-requires c =
     let s = lent_in a.reception in
     let front : Written a.target.now (up_to_map s) c.put.new.out = front_put s a.target.now c.requires.target c.before_map.result _ c.put.new.out c.before_map.ensures c.put.ensures in
     let w = front.1 in
-    ((right_length a.reception.file.length c.requires.length).1, c.requires.map, omega (arith, w))
-
-pub before_buffer-requires : goal.before_buffer-requires
-before_buffer-requires c = (right_length c.args.reception.file.length c.requires.length).1
+    (c.requires.room.mapped, omega (arith, w))
 
 pub put_buffer-requires : goal.put_buffer-requires
 put_buffer-requires c =
@@ -31,7 +24,7 @@ put_buffer-requires c =
     tag_put s a.target.now c.requires.target z.result z.ensures c.put_map.new.target c.before_buffer.result _ c.put-2.new.out mapped c.before_buffer.ensures c.put-2.ensures in
     let w = tag.1 in
     let e = z.ensures in
-    ((right_length a.reception.file.length c.requires.length).1, c.requires.map, c.requires.buffer, omega (arith, w, e))
+    record { room = c.requires.room; target = omega (arith, w, e) }
 
 pub returns : goal.returns
 returns c =
