@@ -42,7 +42,7 @@ padded_below (c ∷ cs) e (suc k) = grind (arith, padded_below cs, spaces_below 
 -- what an address that can be written says
 
 module _ (a : Address) (writable : is_writable a ≡ true) where
-  pub name_of_writable : is_name a ≡ true
+  name_of_writable : is_name a ≡ true
   unfolding is_writable
   name_of_writable = grind arith
 
