@@ -16,7 +16,8 @@ const FILE: [u8; 286] =
 
 // The lowest byte of the number of a letter.
 fn byte(case: &Case, letter: u8) -> u8 {
-    (case.number(letter) % 256) as u8
+    let [lowest, _, _, _] = case.number(letter).to_le_bytes();
+    lowest
 }
 
 // Writes the head of a frame from UOSAT5-11 to VA3SFL-0, the flags and the file number.

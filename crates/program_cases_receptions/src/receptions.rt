@@ -6,7 +6,7 @@ use program_tools::made;
 fn second_buffer(case: &Case) -> [u8; 33000] {
     let mut buffer = [0x5A; 33000];
     octets::put(&mut buffer, 0, b"ABCDEFGHIJKLMNOPQRSTUVWXYZ");
-    let bits = (case.number(b'y') % 256) as u8;
+    let [bits, _, _, _] = case.number(b'y').to_le_bytes();
     made::turn(&mut buffer, case.number(b'f') as usize, bits);
     buffer
 }

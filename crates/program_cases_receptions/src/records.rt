@@ -34,7 +34,7 @@ fn record(case: &Case) -> [u8; 640] {
     octets::put(&mut record, 10, &case.number(b'l').to_le_bytes());
     let map = octets::bytes::<3>(u64::from(case.number(b'k')));
     octets::put(&mut record, 17, &map);
-    let bits = (case.number(b'y') % 256) as u8;
+    let [bits, _, _, _] = case.number(b'y').to_le_bytes();
     made::turn(&mut record, case.number(b'f') as usize, bits);
     record
 }

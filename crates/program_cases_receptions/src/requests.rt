@@ -4,7 +4,7 @@ use program_tools::made;
 
 // To whom a request goes, as a number: VA3SFL, of which the first character can be another, a number, and 256 times bit 7.
 fn to(case: &Case) -> u64 {
-    let first = (case.number(b'a') % 256) as u8;
+    let [first, _, _, _] = case.number(b'a').to_le_bytes();
     address([first, b'A', b'3', b'S', b'F', b'L'], case.number(b'h'))
 }
 

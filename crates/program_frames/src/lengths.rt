@@ -8,27 +8,26 @@ use program_tools::show::Answer;
 use std::alloc::{AllocError, Global};
 use std::io;
 
-// The lines of pieces.
-pub(crate) fn pieces(rt: &impl Print, alloc: Global) -> io::Result<()> {
-    println!(rt; "Lengths: {}", Kind::Piece)?;
-    for n in (0..13).chain(253..258) {
-        line(rt, n, Kind::Piece, &piece(alloc, n)?)?;
+// The lines of a kind of frame.
+pub(crate) fn all(rt: &impl Print, alloc: Global, kind: Kind) -> io::Result<()> {
+    println!(rt; "Lengths: {kind}")?;
+    let (below, long) = match kind {
+        Kind::Piece => (13, 253..258),
+        Kind::Entry => (100, 255..257),
+    };
+    for n in (0..below).chain(long) {
+        let frame = frame(alloc, kind, n)?;
+        println!(rt; "information {n}: {}", Answer(kind.answer(&frame)))?;
     }
-    cuts(rt, alloc, Kind::Piece)
+    cuts(rt, alloc, kind)
 }
 
-// The lines of entries.
-pub(crate) fn entries(rt: &impl Print, alloc: Global) -> io::Result<()> {
-    println!(rt; "Lengths: {}", Kind::Entry)?;
-    for n in (0..100).chain(255..257) {
-        line(rt, n, Kind::Entry, &entry(alloc, n)?)?;
+// A frame with n bytes of information.
+fn frame(alloc: Global, kind: Kind, n: usize) -> Result<Vec<u8>, AllocError> {
+    match kind {
+        Kind::Piece => piece(alloc, n),
+        Kind::Entry => entry(alloc, n),
     }
-    cuts(rt, alloc, Kind::Entry)
-}
-
-// The line of a frame with n bytes of information.
-fn line(rt: &impl Print, n: usize, kind: Kind, frame: &[u8]) -> io::Result<()> {
-    println!(rt; "information {n}: {}", Answer(kind.answer(frame)))
 }
 
 // A piece with n bytes of information: zeros where there is no room for its fields and the check, which

@@ -19,8 +19,9 @@ use std::io;
 
 fn main(rt: HostRuntime) -> io::Result<()> {
     let alloc = rt.alloc();
-    lengths::pieces(&rt, alloc)?;
-    lengths::entries(&rt, alloc)?;
+    for kind in Kind::ALL {
+        lengths::all(&rt, alloc, kind)?;
+    }
     places::all(&rt, alloc)?;
     for kind in Kind::ALL {
         flags::all(&rt, alloc, kind)?;

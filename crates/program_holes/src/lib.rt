@@ -32,6 +32,7 @@ pub fn run(rt: &(impl Input + Print)) {
 }
 
 // Reads into the first bytes of a space, until it is full or nothing more comes; how many bytes they are.
+// Kept: `read_exact` refuses an input that is shorter than the space, and `read_to_end` takes as much memory as there is input.
 fn read_full(mut reader: impl Read + Drop, space: &mut [u8]) -> usize
     ensures { result ≤ length space.new }
 {

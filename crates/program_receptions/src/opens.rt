@@ -13,9 +13,9 @@ use std::io;
 // How large a space is: short by one, exact, or longer by five.
 #[derive(Clone, Copy, Debug, PartialEq, Eq)]
 enum Size {
-    Short,
-    Exact,
-    Longer,
+    Short = 0,
+    Exact = 1,
+    Longer = 6,
 }
 
 impl Size {
@@ -23,11 +23,7 @@ impl Size {
 
     // How many bytes more than short by one it has.
     fn more(self) -> u8 {
-        match self {
-            Size::Short => 0,
-            Size::Exact => 1,
-            Size::Longer => 6,
-        }
+        self as u8
     }
 }
 

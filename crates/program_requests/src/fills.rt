@@ -113,6 +113,7 @@ pub(crate) fn lengths(rt: &impl Print) -> io::Result<()> {
 }
 
 // The lines of each of the 12 faults with each other, and none.
+// Kept beside that of `damages`: one function for both would take the faults, the test and the line, and be called in as many lines.
 pub(crate) fn faults(rt: &impl Print) -> io::Result<()> {
     for first in Fault::ALL {
         for second in Fault::ALL {

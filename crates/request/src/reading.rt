@@ -45,6 +45,8 @@ pub(crate) fn read(s: &[u8], head: Head) -> Result<Request, Reason>
 }
 
 // How many holes follow.
+// Kept: three functions ask that the bytes before the holes are there. `read` calls them behind its one test, and a type for that would
+// be made in one line and taken apart in three.
 fn count_in(s: &[u8]) -> usize
     requires { before_holes ≤ length s.now }
     ensures { result ≡ count_in s.now }

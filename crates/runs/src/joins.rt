@@ -1,4 +1,7 @@
 // Joining a second reception into a first: whether they agree, and the second's positions copied.
+//
+// Kept: the positions of a map byte are two numbers, `from` and `end`, since a value of both would be taken apart again in each line
+// that uses them (`[from..end]`, `from / 8`).
 ghost use Rattle.std.specs.Prelude.{◌≡◌, ◌&&◌, not, ◌+◌, ◌-◌, ◌%◌, ◌*◌, ◌≤◌, ◌<◌, length};
 ghost use Rattle.positions.specs.Spans.{every};
 ghost use Rattle.positions.specs.Map.{held};
