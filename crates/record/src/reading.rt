@@ -1,10 +1,10 @@
 // A record, read.
-ghost use Rattle.std.specs.Prelude.{◌≡◌, true, ◌+◌, ◌-◌, ◌*◌, ◌/◌, ◌^◌, ◌≤◌, ◌<◌, length};
+ghost use Rattle.std.specs.Prelude.{◌≡◌, ◌+◌, ◌*◌, ◌^◌, ◌≤◌, ◌<◌, length};
 ghost use Rattle.positions.specs.Spans.{every};
 ghost use Rattle.positions.specs.Map.{map_size};
 ghost use Rattle.reception.specs.Reception.{longest};
 ghost use Rattle.record.specs.Record.{map_at, buffer_at, record_length};
-ghost use Rattle.record.specs.Reading.{length_in, field_at, fields_right, spare_clear, unheld_clear, is_record, recorded_in};
+ghost use Rattle.record.specs.Reading.{field_at, fields_right, spare_clear, unheld_clear, is_record, recorded_in};
 ghost use Rattle.record.specs.Inner.{Room, part_by, clear_at};
 
 use super::{

@@ -1,10 +1,10 @@
 // A record, written.
-ghost use Rattle.std.specs.Prelude.{◌≡◌, cond, ◌∷◌, ◌++◌, ◌+◌, ◌-◌, ◌*◌, ◌/◌, ◌%◌, ◌≤◌, ◌<◌, ◌^◌, length};
-ghost use Rattle.octets.specs.Numbers.{byte_at, bytes_of};
+ghost use Rattle.std.specs.Prelude.{◌≡◌, cond, ◌∷◌, ◌++◌, ◌+◌, ◌≤◌, length};
+ghost use Rattle.octets.specs.Numbers.{bytes_of};
 ghost use Rattle.octets.specs.Values.{values_from};
 ghost use Rattle.octets.specs.Runs.{put_in};
 ghost use Rattle.positions.specs.Map.{map_size};
-ghost use Rattle.reception.specs.Reception.{lent_in, longest, wrong_length};
+ghost use Rattle.reception.specs.Reception.{lent_in};
 ghost use Rattle.record.specs.Record.{field, saved_map, saved_buffer, record_of, record_length};
 ghost use Rattle.record.specs.Inner.{Room, byte_saved};
 
