@@ -89,6 +89,7 @@ pub struct Pair {
 // extension, its length with its header, the times of its creation and last modification, whether an upset
 // was detected, its type, the sums of body and header, where the body starts, and the upload time; and
 // how many bytes the header itself has.
+// Kept: the upset and the type are bytes, since every byte is one that a header can have there.
 #[derive(Clone, Copy, Debug, PartialEq, Eq)]
 pub struct Header {
     pub number: u32,

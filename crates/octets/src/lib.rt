@@ -20,6 +20,7 @@ pub fn byte(s: &[u8], at: usize) -> u8
 }
 
 // The number of the N bytes of s from a place on, of eight at most; bytes beyond the end of s count as 0.
+// Kept: a sum, since `from_le_bytes` asks for eight bytes that are there, and of N at any place they would first be copied.
 pub fn number<const N: usize>(s: &[u8], at: usize) -> u64
     ensures value { result ≡ number_at (min N 8) s.now at }
     ensures upper_bound { result < 256 ^ min N 8 }
@@ -35,6 +36,7 @@ pub fn number<const N: usize>(s: &[u8], at: usize) -> u64
 }
 
 // The lowest N bytes of a number: all of it where it is below 256 to the N.
+// Kept: a byte at each turn, since `to_le_bytes` has eight of them, and N says how many are wanted, also more.
 pub fn bytes<const N: usize>(number: u64) -> [u8; N]
     ensures { result ≡ bytes_of N number }
 {

@@ -15,8 +15,8 @@ use reception::Reception;
 fn before_map(number: u32, length: u32) -> [u8; MAP_AT]
     ensures { result ≡ field 1 (bytes_of 4 number) ++ field 2 (bytes_of 4 length) ++ 3 ∷ bytes_of 2 (map_size length) }
 {
-    let n = octets::bytes::<4>(number as u64);
-    let l = octets::bytes::<4>(length as u64);
+    let n = octets::bytes::<4>(u64::from(number));
+    let l = octets::bytes::<4>(u64::from(length));
     let size = octets::bytes::<2>(reception::map_size(length) as u64);
     [
         NUMBER_TAG, 4, 0, n[0], n[1], n[2], n[3], LENGTH_TAG, 4, 0, l[0], l[1], l[2], l[3],
@@ -28,7 +28,7 @@ fn before_map(number: u32, length: u32) -> [u8; MAP_AT]
 fn before_buffer(length: u32) -> [u8; BEFORE_DATA]
     ensures { result ≡ 4 ∷ bytes_of 2 length }
 {
-    let l = octets::bytes::<2>(length as u64);
+    let l = octets::bytes::<2>(u64::from(length));
     [BUFFER_TAG, l[0], l[1]]
 }
 

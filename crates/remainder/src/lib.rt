@@ -47,7 +47,7 @@ fn by_bytes(s: &[u8]) -> u16
 fn next_byte(c: u16, b: u8) -> u16
     ensures { result ≡ with_bits c (bits_of b) }
 {
-    let top = (c >> 8) ^ (b as u16);
+    let top = (c >> 8) ^ u16::from(b);
     let q = top ^ (top >> 4);
     (c << 8) ^ (q << 12) ^ (q << 5) ^ q
 }
@@ -83,7 +83,7 @@ fn byte_behind(number: u64, b: u8) -> u64
     requires { number < 2 ^ 56 }
     ensures { result ≡ number * 256 + b }
 {
-    (number << 8) | (b as u64)
+    (number << 8) | u64::from(b)
 }
 
 // A number of 64 bits with the remainder of `wide` and the eight bytes behind it: what these 128 bits

@@ -12,8 +12,8 @@ fn bytes_of(hole: Hole) -> [u8; 5]
     requires { hole.length < 65536 }
     ensures { result ≡ hole_bytes hole }
 {
-    let start = octets::bytes::<3>(hole.start as u64);
-    let size = octets::bytes::<2>(hole.length as u64);
+    let start = octets::bytes::<3>(u64::from(hole.start));
+    let size = octets::bytes::<2>(u64::from(hole.length));
     [start[0], start[1], start[2], size[0], size[1]]
 }
 

@@ -20,7 +20,7 @@ pub(crate) fn writable(head: Head) -> bool
 fn seven(asks: Asks, number: u32) -> [u8; 7]
     ensures { result ≡ request_before asks number }
 {
-    let n = octets::bytes::<4>(number as u64);
+    let n = octets::bytes::<4>(u64::from(number));
     let size = octets::bytes::<2>(BLOCK_SIZE);
     [u8::from(asks), n[0], n[1], n[2], n[3], size[0], size[1]]
 }
