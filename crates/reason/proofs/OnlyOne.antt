@@ -12,6 +12,12 @@ use Rattle.reason.proofs.Reasons.{reason_with, reason_back}
 pub only_one : {A : Type 0} {v : A} (p q : A) → p ≡ v → q ≡ v → p ≡ q
 only_one p q d e = d ∙ sym e
 
+-- Two answers whose meanings are both what a definition says are the same, where no two have one meaning: `case` gives
+-- each meaning's answer back.
+pub only_one_meant : {X A : Type 0} {v : A} (meaning : X → A) (case : A → X) → ((x : X) → case (meaning x) ≡ x) → (p q : X) → meaning p ≡ v
+    → meaning q ≡ v → p ≡ q
+only_one_meant meaning case back p q d e = sym (back p) ∙ ap case (d ∙ sym e) ∙ back q
+
 -- no two results have one meaning: each meaning gives its result back
 result_of : {A : Type 0} → Answer A → Result A Reason
 result_of (accepted a) = Ok a
@@ -24,14 +30,21 @@ result_back (Err reason) = ap Err (reason_back reason)
 
 -- two results whose meanings are both what a definition says are the same
 pub only_one_answer : {A : Type 0} {v : Answer A} (r q : Result A Reason) → answer_of r ≡ v → answer_of q ≡ v → r ≡ q
-only_one_answer r q d e = sym (result_back r) ∙ ap result_of (d ∙ sym e) ∙ result_back q
+only_one_answer r q d e = only_one_meant answer_of result_of result_back r q d e
 
 -- a writer's answer and the bytes that it leaves are fixed
 pub only_one_written : (lent : List ℕ) (m : Answer (List ℕ)) (r q : Result Unit Reason) (left also : List ℕ) → Writes lent m r left
     → Writes lent m q also → (r ≡ q) × (left ≡ also)
 only_one_written lent m r q left also d e = (only_one_answer r q d.answers e.answers, only_one left also d.bytes e.bytes)
 
--- .. and so are those of one that tells values
+-- .. and so are those of one that tells values, where no two of its answers have one meaning
+pub only_one_meant_told : {X A : Type 0} (meaning : X → Answer A) (case : Answer A → X) → ((x : X) → case (meaning x) ≡ x) → (lent : List ℕ)
+    (answer : Answer A) (made : A → List ℕ) (r q : X) (left also : List ℕ) → WritesAndTells lent answer made (meaning r) left
+    → WritesAndTells lent answer made (meaning q) also → (r ≡ q) × (left ≡ also)
+only_one_meant_told meaning case back lent answer made r q left also d e =
+    (only_one_meant meaning case back r q d.answers e.answers, only_one left also d.bytes e.bytes)
+
+-- .. and so are a result and the bytes
 pub only_one_told : {A : Type 0} (lent : List ℕ) (told : Answer A) (made : A → List ℕ) (r q : Result A Reason) (left also : List ℕ)
     → WritesAndTells lent told made (answer_of r) left → WritesAndTells lent told made (answer_of q) also → (r ≡ q) × (left ≡ also)
-only_one_told lent told made r q left also d e = (only_one_answer r q d.answers e.answers, only_one left also d.bytes e.bytes)
+only_one_told = only_one_meant_told answer_of result_of result_back

@@ -44,8 +44,8 @@
 //   reception  take, of the `Data` of a piece that was read (specs/Taking), wrong_length, short, short_map
 //              (specs/Reception), map_size (positions, specs/Map)
 //   runs       piece_agrees, put_piece, both_agree, add_held (specs/Offers)
-//   positions  is_set, lowest, count_set, is_held, mark (specs/Map), count_held, first_held, first_unheld
-//              (specs/Spans)
+//   positions  is_set, lowest, count_set, is_held, mark (specs/Map), first_on (specs/Map),
+//              count_held (specs/Spans)
 //   remainder  remainder (specs/Remainder), check_right (specs/Check)
 //   octets     byte, number, bytes (specs/Numbers), array (specs/Values), put (specs/Runs)
 //
