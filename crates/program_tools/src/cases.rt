@@ -292,3 +292,26 @@ fn tell(rt: &impl Print, expected: [u32; 4], got: [u32; 4]) -> io::Result<()> {
     print!(rt; ", got {a} {b} {c} {d}")?;
     println!(rt; "{}", if expected == got { "" } else { " DIFFERS" })
 }
+
+#[cfg(test)]
+mod tests {
+    use super::*;
+    use std::test::Fail;
+
+    // Two cases below a heading and the usual numbers, of which one differs; and what stands on standard input, which is nothing
+    // where tests run.
+    #[test]
+    fn cases_are_counted(rt: HostRuntime) -> Result<(), Fail> {
+        let text = b"Heading\n:l20=0 20;\nas expected:\nof another length:l7\n";
+        let tally = read(&rt, text, |case| [0, case.number(b'l'), 0, 0])?;
+        assert_eq!(rt;
+            tally,
+            Tally {
+                cases: 2,
+                differ: 1
+            }
+        );
+        run(&rt, |case| case.expected())?;
+        Ok(())
+    }
+}
