@@ -5,7 +5,7 @@ use mathlib.Core.Bool.{true≢false}
 use mathlib.Core.Logic.{⊎_elim}
 use mathlib.Core.List.{List, [], ◌∷◌, ◌++◌}
 use Prim.Native.Nat.{ℕ, zero, suc, ◌+◌, ◌*◌, ◌/◌, ◌%◌, ◌^◌, ◌≤◌, ◌<◌}
-use native.Mathlib.Nat.{pow-suc, pow-succ', pow-le-pow_right, one-le-pow, div-one, div-div-eq-div-mul}
+use native.Mathlib.Nat.{pow-suc, pow-succ', pow-le-pow_right, one-le-pow, div-one, div-div-eq-div-mul, le-div_iff_mul-le}
 use native.Mathlib.Numerals.{add-one}
 use native.Mathlib.Omega.{arith}
 use lib.Dec.{ltb, lit≤}
@@ -24,10 +24,42 @@ power_pos k = one-le-pow k 10 (omega arith)
 pub rest_more : (n k : ℕ) → n / 10 ^ k / 10 ≡ n / 10 ^ suc k
 rest_more n k = div-div-eq-div-mul n (10 ^ k) 10 ∙ ap (λ (m : ℕ). n / m) (sym (pow-suc 10 k))
 
+-- where nothing is left behind k digits, the number is below the power
+pub rest_none : (n k : ℕ) → n / 10 ^ k ≡ 0 → n < 10 ^ k
+rest_none n k e = ⊎_elim (λ h. absurd (some ((le-div_iff_mul-le (power_pos k)).1 (one h)))) (λ h. h) (le_or_lt (10 ^ k) n)
+  where
+    one : 10 ^ k ≤ n → 1 * 10 ^ k ≤ n
+    one h = omega arith
+
+    some : 1 ≤ n / 10 ^ k → ⊥
+    some h = omega arith
+
+-- a number of 32 bits reaches no power from 10 ^ 10 on
+pub few : (n k : ℕ) → n < 2 ^ 32 → 10 ^ k ≤ n → k < 10
+few n k h g = ⊎_elim (λ w. absurd (no (pow-le-pow_right (omega arith) w))) (λ w. w) (le_or_lt 10 k)
+  where
+    no : 10 ^ 10 ≤ 10 ^ k → ⊥
+    no w = omega arith
+
 -- How many digits a number has is fixed by the powers that it reaches and the one that it does not.
-pub digit_count_is : (n k : ℕ) → 10 ^ k ≤ n → n < 10 * 10 ^ k → k < 10 → k + 1 ≡ digit_count n
+pub digit_count_is : (n k : ℕ) → n < 2 ^ 32 → 1 ≤ k → ((j : ℕ) → 1 ≤ j → j < k → 10 ^ j ≤ n) → n / 10 ^ k ≡ 0 → k ≡ digit_count n
 unfolding digit_count
-digit_count_is n k reached below few =
+digit_count_is n k h low reached none =
+    sym
+    (first_is (λ j. ltb n (10 ^ j)) 1 9 k low
+    (most k reached)
+    (λ j l g. le-ltb n (10 ^ j) (reached j l g))
+    (λ g. lt-ltb n (10 ^ k) (rest_none n k none)))
+  where
+    most : (k : ℕ) → ((j : ℕ) → 1 ≤ j → j < k → 10 ^ j ≤ n) → k ≤ 10
+    most zero r = omega arith
+    most (suc zero) r = omega arith
+    most (suc (suc j)) r = let w = few n (suc j) h (r (suc j) (omega arith) (omega arith)) in omega arith
+
+-- .. and by the one power between it and a tenth of it
+pub digit_count_between : (n k : ℕ) → 10 ^ k ≤ n → n < 10 * 10 ^ k → k < 10 → k + 1 ≡ digit_count n
+unfolding digit_count
+digit_count_between n k reached below few =
     sym
     (first_is (λ j. ltb n (10 ^ j)) 1 9 (k + 1) (omega arith) (omega arith)
     (λ j l g. le-ltb n (10 ^ j) (omega (arith, reached, pow-le-pow_right {n = 10} (omega arith) {i = j} {j = k} (omega arith))))
