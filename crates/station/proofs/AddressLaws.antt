@@ -12,7 +12,7 @@ use Rattle.octets.specs.Numbers.{byte_at, number_at, bytes_of, AllBytes}
 use Rattle.octets.proofs.NumberLaws.{number_of_bytes, bytes_back, number_below}
 use Rattle.ax25.specs.declared.Address.{Address}
 use Rattle.ax25.specs.Address.{characters_of, is_name, is_writable}
-use Rattle.ax25.proofs.SpellingLaws.{name_of_writable, character_of_writable, number_of_writable, bit_of_writable}
+use Rattle.ax25.proofs.SpellingLaws.{character_of_writable, number_of_writable, bit_of_writable}
 use Rattle.station.specs.AddressNumber.{address_number, address_of}
 
 -- its eight bytes: the characters, the number of its SSID and bit 7
@@ -59,6 +59,10 @@ bytes_of_writable a w =
     (two_bytes a.number a.bit7 (omega (arith, number_of_writable a w)) (omega (arith, bit_of_writable a w)))
 
 -- it has six characters
+name_of_writable : (a : Address) → is_writable a ≡ true → is_name a ≡ true
+unfolding is_writable
+name_of_writable a w = grind arith
+
 six_of_writable : (a : Address) → is_writable a ≡ true → length (characters_of a) ≡ 6
 unfolding is_name
 six_of_writable a w = let name = name_of_writable a w in grind arith
