@@ -1,28 +1,31 @@
 -- Bit 7 of a frame's two SSID bytes (02, C-12) decides nothing: whatever they are, a frame gets the same answer but for the bits.
 -- Assumes nothing.
 use mathlib.Core.Path.{◌≡◌, refl, sym, ap, ◌∙◌}
-use mathlib.Core.Bool.{true, ◌&&◌}
+use mathlib.Core.Bool.{true, not, ◌&&◌}
 use mathlib.Core.Logic.{⊎_elim}
-use mathlib.Core.List.{List, [], ◌∷◌, ◌++◌}
+use mathlib.Core.List.{List, [], ◌∷◌, ◌++◌, map}
 use Prim.Native.Nat.{ℕ, zero, suc, ◌+◌, ◌*◌, ◌/◌, ◌%◌, ◌≤◌, ◌<◌}
-use native.Mathlib.Nat.{add-zero, div-div-eq-div-mul}
+use native.Mathlib.Nat.{div-div-eq-div-mul}
 use native.Mathlib.Omega.{arith}
+use lib.Dec.{eqb}
 use lib.ListN.{length, set, drop, length-set}
 use lib.Seq.{get_or-set_same, get_or-set_other}
+use Rattle.std.specs.List.{list_all}
 use Rattle.reason.specs.Answer.{telling}
 use Rattle.reason.specs.Order.{Check, first_of}
 use Rattle.reason.proofs.Bools.{and_left, and_right, le_or_lt}
 use Rattle.reason.proofs.OrderLaws.{refused_then, first_telling}
 use Rattle.octets.specs.Numbers.{byte_at}
+use Rattle.octets.proofs.ValueLaws.{values_same}
 use Rattle.ax25.specs.declared.Address.{Address}
 use Rattle.ax25.specs.declared.Role.{Role}
 use Rattle.ax25.specs.declared.Role.TheVariants.{Destination, Source}
 use Rattle.ax25.specs.declared.Head.{Head}
-use Rattle.ax25.specs.Address.{is_name, is_writable, address_at, well_formed}
+use Rattle.ax25.specs.Address.{all_spaces, padded, is_name, is_writable, six_at, address_at, low_bits_clear, well_formed}
 use Rattle.ax25.specs.Head.{head_length, head_checks, head_of, head_bytes}
 use Rattle.ax25.specs.Information.{information_of}
 use Rattle.ax25.specs.Bits.{address_with, head_with, byte_with, frame_with}
-use Rattle.ax25.proofs.SpellingLaws.{number_of_writable}
+use Rattle.ax25.proofs.SpellingLaws.{number_of_writable, six_places}
 use Rattle.ax25.proofs.HeadLaws.{reads_1}
 
 -- a byte with another bit 7: its other bits stay
@@ -41,18 +44,25 @@ last_stays bit x = omega arith
 
 -- two addresses whose bytes differ in that bit alone: one is right exactly if the other is, and they spell the same but for the bit
 module _ (s t : List ℕ) (at bit : ℕ) (same : (k : ℕ) → k < 6 → byte_at t (at + k) ≡ byte_at s (at + k)) (ssid : byte_at t (at + 6) ≡ bit * 128 + byte_at s (at + 6) % 128) where
-  first : byte_at t at ≡ byte_at s at
-  first = ap (byte_at t) (sym (add-zero at)) ∙ same 0 (omega arith) ∙ ap (byte_at s) (add-zero at)
+  six_alike : six_at t at ≡ six_at s at
+  six_alike = six_places t at ∙ values_same _ _ 0 6 same ∙ sym (six_places s at)
 
   spelled_alike : address_at t at ≡ address_with bit (address_at s at)
   unfolding address_at
   spelled_alike =
-      simp (first, same 1 (omega arith), same 2 (omega arith), same 3 (omega arith), same 4 (omega arith), same 5 (omega arith), ssid, number_stays, bit_told)
+      let name : map (λ b. b / 2) (six_at t at) ≡ map (λ b. b / 2) (six_at s at) = ap (map (λ (b : ℕ). b / 2)) six_alike in
+      rw (name, ssid, number_stays bit (byte_at s (at + 6)), bit_told bit (byte_at s (at + 6))) refl
+
+  low_alike : low_bits_clear t at ≡ low_bits_clear s at
+  low_alike = ap (list_all (λ (b : ℕ). eqb (b % 2) 0)) six_alike
+
+  named_alike : is_name (address_at t at) ≡ is_name (address_at s at)
+  unfolding is_name address_at
+  named_alike = ap (λ (l : List ℕ). let name = map (λ (b : ℕ). b / 2) l in padded name && not (all_spaces name)) six_alike
 
   formed_alike : (role : Role) → well_formed role t at ≡ well_formed role s at
-  unfolding well_formed is_name address_at
-  formed_alike role =
-      simp (first, same 1 (omega arith), same 2 (omega arith), same 3 (omega arith), same 4 (omega arith), same 5 (omega arith), ssid, bits_6_and_5, last_stays)
+  unfolding well_formed
+  formed_alike role = simp (low_alike, ssid, bits_6_and_5, last_stays, named_alike)
 
 -- what stands behind a byte that is set
 drop_set : (s : List ℕ) (at b n : ℕ) → at < n → drop n (set s at b) ≡ drop n s

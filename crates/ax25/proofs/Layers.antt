@@ -6,25 +6,26 @@ use Prim.Native.Nat.{ℕ, ◌-◌, ◌≤◌}
 use native.Mathlib.Omega.{arith}
 use lib.ListN.{length, take, drop, length-drop}
 use lib.Seq.{take_all}
-use Rattle.reason.specs.Answer.{Answer, accepted, refused}
+use Rattle.std.specs.Prelude.{Result, Ok, Err}
+use Rattle.reason.specs.declared.Reason.{Reason}
+use Rattle.reason.specs.Reasons.{number_of}
+use Rattle.reason.specs.Answer.{Answer, accepted, refused, answer_of}
 use Rattle.reason.specs.Order.{Check, first_of}
 use Rattle.reason.proofs.OrderLaws.{refused_then, accepted_then}
 use Rattle.ax25.specs.declared.Head.{Head}
-use Rattle.ax25.specs.declared.HeadRead.{HeadRead}
-use Rattle.ax25.specs.declared.HeadRead.TheVariants as head
-use Rattle.ax25.specs.Head.{head_length, head_checks, head_of, head_answer, read_head}
+use Rattle.ax25.specs.Head.{head_length, head_checks, head_of, read_head}
 use Rattle.ax25.proofs.HeadLaws.{head_says}
 use Rattle.ax25.specs.Information.{information_of}
 
-module _ {A : Type 0} (protocol : ℕ) (frame : List ℕ) (checks : List ℕ → List Check) (fields : Head → List ℕ → A) (r : HeadRead)
-    (read : head_answer r ≡ read_head protocol frame) where
+module _ {A : Type 0} (protocol : ℕ) (frame : List ℕ) (checks : List ℕ → List Check) (fields : Head → List ℕ → A) (r : Result Head Reason)
+    (read : answer_of r ≡ read_head protocol frame) where
   -- the answer of the two layers
   abbrev Both : Answer A
   Both = first_of (head_checks protocol frame ++ checks (information_of frame)) (fields (head_of frame) (information_of frame))
 
-  module _ (h : Head) (told : r ≡ head.Accepted h) where
+  module _ (h : Head) (told : r ≡ Ok h) where
     says : accepted h ≡ read_head protocol frame
-    says = sym (ap head_answer told) ∙ read
+    says = sym (ap answer_of told) ∙ read
 
     -- behind an accepted head there is information
     pub long : head_length ≤ length frame
@@ -43,7 +44,7 @@ module _ {A : Type 0} (protocol : ℕ) (frame : List ℕ) (checks : List ℕ →
         (sym (accepted_then (head_checks protocol frame) (checks (information_of frame)) (head_of frame) h (fields (head_of frame) (information_of frame)) (sym says)))
 
   -- a refused head refuses the frame
-  pub refused_head : (n : ℕ) → r ≡ head.Refused n → refused n ≡ Both
-  refused_head n told =
-      sym (refused_then (head_checks protocol frame) (checks (information_of frame)) (head_of frame) (fields (head_of frame) (information_of frame)) n
-      (sym (sym (ap head_answer told) ∙ read)))
+  pub refused_head : (reason : Reason) → r ≡ Err reason → refused (number_of reason) ≡ Both
+  refused_head reason told =
+      sym (refused_then (head_checks protocol frame) (checks (information_of frame)) (head_of frame) (fields (head_of frame) (information_of frame)) (number_of reason)
+      (sym (sym (ap answer_of told) ∙ read)))

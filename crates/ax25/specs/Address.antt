@@ -1,15 +1,15 @@
 -- The AX.25 address (01, "Frame", and 02, C-12): six characters, each shifted left by one, and an SSID byte.
 -- Assumes nothing.
-use Rattle.std.specs.Prelude.{Bool, true, not, ◌&&◌, ◌||◌, List, [], ◌∷◌, ℕ, ◌+◌, ◌*◌, ◌/◌, ◌%◌, leb, ltb, eqb}
-use Rattle.reason.specs.Answer.{Answer, accepted, refused}
+use Rattle.std.specs.Prelude.{Bool, true, not, ◌&&◌, ◌||◌, List, [], ◌∷◌, ◌++◌, map, ℕ, ◌+◌, ◌*◌, ◌/◌, ◌%◌, leb, ltb, eqb, length}
+use Rattle.std.specs.List.{list_all}
+use Rattle.reason.specs.Answer.{Answer}
 use Rattle.reason.specs.Order.{Check, check, first_of}
 use Rattle.octets.specs.Numbers.{byte_at}
+use Rattle.octets.specs.Values.{values_from}
 use Rattle.octets.specs.Runs.{has_room, put_in}
 use Rattle.ax25.specs.declared.Address.{Address}
 use Rattle.ax25.specs.declared.Role.{Role}
 use Rattle.ax25.specs.declared.Role.TheVariants.{Destination, Source}
-use Rattle.ax25.specs.declared.AddressRead.{AddressRead}
-use Rattle.ax25.specs.declared.AddressRead.TheVariants.{Accepted, Refused}
 
 -- A–Z and 0–9
 abbrev pub is_character : ℕ → Bool
@@ -17,8 +17,7 @@ is_character c = (leb 0x41 c && leb c 0x5A) || (leb 0x30 c && leb c 0x39)
 
 -- nothing but spaces
 abbrev pub all_spaces : List ℕ → Bool
-all_spaces [] = true
-all_spaces (c ∷ cs) = eqb c 0x20 && all_spaces cs
+all_spaces cs = list_all (λ c. eqb c 0x20) cs
 
 -- characters, padded at the end with spaces
 abbrev pub padded : List ℕ → Bool
@@ -27,11 +26,11 @@ padded (c ∷ cs) = (is_character c && padded cs) || all_spaces (c ∷ cs)
 
 -- its six characters
 abbrev pub characters_of : Address → List ℕ
-characters_of a = a.c0 ∷ a.c1 ∷ a.c2 ∷ a.c3 ∷ a.c4 ∷ a.c5 ∷ []
+characters_of a = a.characters
 
 -- six characters from A–Z and 0–9, padded at the end with spaces, not all spaces
 unfoldable pub is_name : Address → Bool
-is_name a = padded (characters_of a) && not (all_spaces (characters_of a))
+is_name a = eqb (length (characters_of a)) 6 && padded (characters_of a) && not (all_spaces (characters_of a))
 
 -- an address that can be written: a name, a number of four bits, and one bit
 unfoldable pub is_writable : Address → Bool
@@ -48,31 +47,23 @@ ssid_byte role a = a.bit7 * 128 + 0x60 + a.number * 2 + last_bit role
 
 -- the seven bytes: each character shifted left by one, and the SSID byte
 abbrev pub address_bytes : Role → Address → List ℕ
-address_bytes role a =
-    a.c0 * 2 ∷ a.c1 * 2 ∷ a.c2 * 2 ∷ a.c3 * 2 ∷ a.c4 * 2 ∷ a.c5 * 2 ∷ ssid_byte role a ∷ []
+address_bytes role a = values_from (λ k. byte_at (characters_of a) k * 2) 0 6 ++ ssid_byte role a ∷ []
+
+-- the six bytes from a place on
+abbrev pub six_at : List ℕ → ℕ → List ℕ
+six_at s at = values_from (byte_at s) at 6
 
 -- what the seven bytes from a place on spell
 unfoldable pub address_at : List ℕ → ℕ → Address
 address_at s at = record {
-  c0 = byte_at s at / 2;
-  c1 = byte_at s (at + 1) / 2;
-  c2 = byte_at s (at + 2) / 2;
-  c3 = byte_at s (at + 3) / 2;
-  c4 = byte_at s (at + 4) / 2;
-  c5 = byte_at s (at + 5) / 2;
+  characters = map (λ b. b / 2) (six_at s at);
   number = byte_at s (at + 6) / 2 % 16;
   bit7 = byte_at s (at + 6) / 128;
 }
 
 -- each character's low bit is 0
 abbrev pub low_bits_clear : List ℕ → ℕ → Bool
-low_bits_clear s at =
-    eqb (byte_at s at % 2) 0
-    && eqb (byte_at s (at + 1) % 2) 0
-    && eqb (byte_at s (at + 2) % 2) 0
-    && eqb (byte_at s (at + 3) % 2) 0
-    && eqb (byte_at s (at + 4) % 2) 0
-    && eqb (byte_at s (at + 5) % 2) 0
+low_bits_clear s at = list_all (λ b. eqb (b % 2) 0) (six_at s at)
 
 -- an SSID byte: bit 7 is free, bits 6 and 5 are 11, bit 0 is the role's
 abbrev pub ssid_right : Role → ℕ → Bool
@@ -98,8 +89,3 @@ address_write_checks role out at a = check (not (is_writable a)) 2 ∷ check (no
 -- writing an address into a list from a place on: the list with its seven bytes there
 unfoldable pub write_address : Role → List ℕ → ℕ → Address → Answer (List ℕ)
 write_address role out at a = first_of (address_write_checks role out at a) (put_in out at (address_bytes role a))
-
--- the paper's number and values for each case of `read_address`'s answer
-abbrev pub address_answer : AddressRead → Answer Address
-address_answer (Accepted a) = accepted a
-address_answer (Refused n) = refused n

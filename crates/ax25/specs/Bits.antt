@@ -7,16 +7,7 @@ use Rattle.ax25.specs.declared.Head.{Head}
 
 -- an address with another bit 7
 abbrev pub address_with : ℕ → Address → Address
-address_with bit a = record {
-  c0 = a.c0;
-  c1 = a.c1;
-  c2 = a.c2;
-  c3 = a.c3;
-  c4 = a.c4;
-  c5 = a.c5;
-  number = a.number;
-  bit7 = bit;
-}
+address_with bit a = record a { bit7 = bit }
 
 -- a head with those of its destination and its source
 abbrev pub head_with : ℕ → ℕ → Head → Head

@@ -5,7 +5,7 @@ use Rattle.ax25.specs.declared.Address.{Address}
 
 -- VA3SFL-0
 abbrev pub va3sfl : Address
-va3sfl = record { c0 = 0x56; c1 = 0x41; c2 = 0x33; c3 = 0x53; c4 = 0x46; c5 = 0x4C; number = 0; bit7 = 0 }
+va3sfl = record { characters = 0x56 ∷ 0x41 ∷ 0x33 ∷ 0x53 ∷ 0x46 ∷ 0x4C ∷ []; number = 0; bit7 = 0 }
 
 -- .. as destination
 abbrev pub va3sfl_bytes : List ℕ
@@ -13,7 +13,7 @@ va3sfl_bytes = 0xAC ∷ 0x82 ∷ 0x66 ∷ 0xA6 ∷ 0x8C ∷ 0x98 ∷ 0x60 ∷ []
 
 -- UOSAT5 with a number; the worked one is 11
 abbrev pub uosat5 : ℕ → Address
-uosat5 n = record { c0 = 0x55; c1 = 0x4F; c2 = 0x53; c3 = 0x41; c4 = 0x54; c5 = 0x35; number = n; bit7 = 0 }
+uosat5 n = record { characters = 0x55 ∷ 0x4F ∷ 0x53 ∷ 0x41 ∷ 0x54 ∷ 0x35 ∷ []; number = n; bit7 = 0 }
 
 -- .. with an SSID byte; of UOSAT5-11 as source it is 77
 abbrev pub uosat5_bytes : ℕ → List ℕ
@@ -21,7 +21,7 @@ uosat5_bytes ssid = 0xAA ∷ 0x9E ∷ 0xA6 ∷ 0x82 ∷ 0xA8 ∷ 0x6A ∷ ssid �
 
 -- QST-1 with its bit 7 set
 abbrev pub qst : Address
-qst = record { c0 = 0x51; c1 = 0x53; c2 = 0x54; c3 = 0x20; c4 = 0x20; c5 = 0x20; number = 1; bit7 = 1 }
+qst = record { characters = 0x51 ∷ 0x53 ∷ 0x54 ∷ 0x20 ∷ 0x20 ∷ 0x20 ∷ []; number = 1; bit7 = 1 }
 
 -- .. as destination, as Direwolf sends it; its source's SSID byte is then F7
 abbrev pub qst_bytes : List ℕ
@@ -37,7 +37,7 @@ lower_bytes = 0xEA ∷ 0x9E ∷ 0xA6 ∷ 0x82 ∷ 0xA8 ∷ 0x6A ∷ 0x77 ∷ []
 
 -- six spaces and the number 0
 abbrev pub spaces : Address
-spaces = record { c0 = 0x20; c1 = 0x20; c2 = 0x20; c3 = 0x20; c4 = 0x20; c5 = 0x20; number = 0; bit7 = 0 }
+spaces = record { characters = 0x20 ∷ 0x20 ∷ 0x20 ∷ 0x20 ∷ 0x20 ∷ 0x20 ∷ []; number = 0; bit7 = 0 }
 
 -- .. as destination
 abbrev pub spaces_bytes : List ℕ

@@ -1,15 +1,13 @@
 -- The head of a frame (01, "Frame"): destination, source, control 0x03 and the protocol; its reasons in their order.
 -- Assumes nothing.
 use Rattle.std.specs.Prelude.{not, ◌&&◌, List, [], ◌∷◌, ◌++◌, ℕ, ◌+◌, ◌-◌, ltb, eqb, length}
-use Rattle.reason.specs.Answer.{Answer, accepted, refused}
+use Rattle.reason.specs.Answer.{Answer}
 use Rattle.reason.specs.Order.{Check, check, first_of}
 use Rattle.octets.specs.Numbers.{byte_at}
 use Rattle.octets.specs.Runs.{put_in}
 use Rattle.ax25.specs.declared.Address.{Address}
 use Rattle.ax25.specs.declared.Role.TheVariants.{Destination, Source}
 use Rattle.ax25.specs.declared.Head.{Head}
-use Rattle.ax25.specs.declared.HeadRead.{HeadRead}
-use Rattle.ax25.specs.declared.HeadRead.TheVariants.{Accepted, Refused}
 use Rattle.ax25.specs.Address.{is_writable, address_bytes, address_at, well_formed}
 
 -- the bytes before the information: two addresses, control and protocol
@@ -61,8 +59,3 @@ head_write_checks out destination source =
 unfoldable pub write_head : List ℕ → Address → Address → ℕ → Answer (List ℕ)
 write_head out destination source protocol =
     first_of (head_write_checks out destination source) (put_in out 0 (head_bytes destination source protocol))
-
--- the paper's number and values for each case of `read_head`'s answer
-abbrev pub head_answer : HeadRead → Answer Head
-head_answer (Accepted h) = accepted h
-head_answer (Refused n) = refused n

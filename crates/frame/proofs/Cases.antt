@@ -14,7 +14,7 @@ use Rattle.ax25.specs.Address.{is_name, address_at, well_formed}
 use Rattle.ax25.specs.Head.{head_checks, head_of}
 use Rattle.ax25.specs.Examples.{va3sfl, va3sfl_bytes, uosat5, uosat5_bytes}
 use Rattle.ax25.specs.declared.Head.{Head}
-use Rattle.header.specs.declared.Upload.TheVariants.{Time}
+use Rattle.std.specs.Prelude.{Some}
 use Rattle.header.specs.declared.Header.{Header}
 use Rattle.header.specs.Items.{mandatory_items, known_items, decision_of, step_with, step_at, items_from}
 use Rattle.header.specs.Header.{header_sum, header_of, keeps_rules, read_header}
@@ -52,8 +52,8 @@ changed at b = framed 0xBD (with_check (set figure32 at b))
 abbrev header32 : Header
 header32 = record {
   number = 0xAE67;
-  name = record { c0 = 0x42; c1 = 0x4C; c2 = 0x39; c3 = 0x39; c4 = 0x31; c5 = 0x31; c6 = 0x32; c7 = 0x34 };
-  extension = record { c0 = 0x20; c1 = 0x20; c2 = 0x20 };
+  name = 0x42 ∷ 0x4C ∷ 0x39 ∷ 0x39 ∷ 0x31 ∷ 0x31 ∷ 0x32 ∷ 0x34 ∷ [];
+  extension = 0x20 ∷ 0x20 ∷ 0x20 ∷ [];
   length = 0x06E0;
   created = 0x383B2D49;
   modified = 0x383C7EE1;
@@ -62,7 +62,7 @@ header32 = record {
   bodysum = 0x44FB;
   headersum = 0x0C84;
   body = 0x50;
-  upload = Time 0x383C7EE0;
+  upload = Some 0x383C7EE0;
   size = 80;
 }
 
@@ -104,8 +104,8 @@ values_of_bytes = record {
 abbrev header33 : Header
 header33 = record {
   number = 0xAE7E;
-  name = record { c0 = 0x41; c1 = 0x4C; c2 = 0x39; c3 = 0x39; c4 = 0x31; c5 = 0x31; c6 = 0x32; c7 = 0x39 };
-  extension = record { c0 = 0x20; c1 = 0x20; c2 = 0x20 };
+  name = 0x41 ∷ 0x4C ∷ 0x39 ∷ 0x39 ∷ 0x31 ∷ 0x31 ∷ 0x32 ∷ 0x39 ∷ [];
+  extension = 0x20 ∷ 0x20 ∷ 0x20 ∷ [];
   length = 0x03C1;
   created = 0x3841C564;
   modified = 0x3841FC5B;
@@ -114,7 +114,7 @@ header33 = record {
   bodysum = 0xADEB;
   headersum = 0x0D88;
   body = 0x50;
-  upload = Time 0x3841FC5A;
+  upload = Some 0x3841FC5A;
   size = 80;
 }
 

@@ -1,6 +1,6 @@
 -- A directory entry (01, "Frame"): flags (1), number (4), offset (4), time old (4), time new (4), header, check.
 -- Assumes nothing.
-use Rattle.std.specs.Prelude.{Bool, not, ◌&&◌, List, [], ◌∷◌, ◌++◌, ℕ, ◌+◌, ◌-◌, ◌/◌, ◌%◌, ltb, eqb, length, take, drop}
+use Rattle.std.specs.Prelude.{Bool, not, ◌&&◌, List, [], ◌∷◌, ◌++◌, ℕ, ◌+◌, ◌/◌, ◌%◌, ltb, eqb, length}
 use Rattle.reason.specs.Answer.{Answer, accepted, refused}
 use Rattle.reason.specs.Order.{Check, check, first_of}
 use Rattle.octets.specs.Numbers.{byte_at, number_at}
@@ -9,8 +9,7 @@ use Rattle.ax25.specs.declared.Head.{Head}
 use Rattle.ax25.specs.Head.{head_checks, head_of}
 use Rattle.header.specs.Header.{header_length, header_of, keeps_rules}
 use Rattle.frame.specs.declared.Entry.{Entry}
-use Rattle.frame.specs.declared.EntryRead.{EntryRead}
-use Rattle.frame.specs.declared.EntryRead.TheVariants.{Accepted, Refused}
+use Rattle.frame.specs.Parts.{part_behind}
 use Rattle.ax25.specs.Information.{directory_protocol, information_of}
 
 -- how many bytes stand before the file header: flags, number, offset, time old and time new
@@ -27,7 +26,7 @@ header_whole flags offset = eqb (flags / 32 % 2) 1 && eqb offset 0
 
 -- the bytes of the information between time new and the check bytes
 abbrev pub header_part : List ℕ → List ℕ
-header_part s = take (length s - check_length - before_header) (drop before_header s)
+header_part s = part_behind before_header s
 
 -- they are a header of the file with the entry's number, and nothing follows its end
 abbrev pub header_right : List ℕ → Bool
@@ -75,8 +74,3 @@ header_bytes_read (refused n) frame = []
 -- an entry's file header itself
 abbrev pub header_bytes : List ℕ → List ℕ
 header_bytes frame = header_bytes_read (read_entry frame) frame
-
--- the paper's number and values for each case of `read_entry`'s answer
-abbrev pub entry_answer : EntryRead → Answer Entry
-entry_answer (Accepted e) = accepted e
-entry_answer (Refused n) = refused n

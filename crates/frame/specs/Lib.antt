@@ -3,3 +3,4 @@ pub mod Entry
 pub mod Making
 pub mod Figure
 pub mod Says
+pub mod Parts

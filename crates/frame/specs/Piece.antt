@@ -1,6 +1,6 @@
 -- A file piece (01, "Frame"): flags, file number (4), type (1), offset (3), 1 to 244 data bytes, check.
 -- Assumes nothing.
-use Rattle.std.specs.Prelude.{not, List, [], ◌∷◌, ◌++◌, ℕ, ◌+◌, ◌-◌, ltb, eqb, length, take, drop}
+use Rattle.std.specs.Prelude.{not, List, [], ◌∷◌, ◌++◌, ℕ, ◌+◌, ltb, eqb, length}
 use Rattle.reason.specs.Answer.{Answer, accepted, refused}
 use Rattle.reason.specs.Order.{Check, check, first_of}
 use Rattle.octets.specs.Numbers.{byte_at, number_at}
@@ -8,8 +8,7 @@ use Rattle.remainder.specs.Check.{check_length, check_right}
 use Rattle.ax25.specs.declared.Head.{Head}
 use Rattle.ax25.specs.Head.{head_checks, head_of}
 use Rattle.frame.specs.declared.Piece.{Piece}
-use Rattle.frame.specs.declared.PieceRead.{PieceRead}
-use Rattle.frame.specs.declared.PieceRead.TheVariants.{Accepted, Refused}
+use Rattle.frame.specs.Parts.{part_behind}
 use Rattle.ax25.specs.Information.{file_protocol, information_of}
 
 -- how many bytes stand before the data: flags, number, type and offset
@@ -47,7 +46,7 @@ read_piece frame = first_of (piece_order frame) (piece_of frame)
 
 -- the bytes of the information between the nine header bytes and the check bytes
 abbrev pub data_part : List ℕ → List ℕ
-data_part s = take (length s - check_length - before_data) (drop before_data s)
+data_part s = part_behind before_data s
 
 -- the bytes of a piece that was read: none if it was refused
 abbrev pub piece_bytes_read : Answer Piece → List ℕ → List ℕ
@@ -57,8 +56,3 @@ piece_bytes_read (refused n) frame = []
 -- the piece itself
 abbrev pub piece_bytes : List ℕ → List ℕ
 piece_bytes frame = piece_bytes_read (read_piece frame) frame
-
--- the paper's number and values for each case of `read_piece`'s answer
-abbrev pub piece_answer : PieceRead → Answer Piece
-piece_answer (Accepted p) = accepted p
-piece_answer (Refused n) = refused n

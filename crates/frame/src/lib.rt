@@ -12,13 +12,16 @@ mod entries;
 mod pieces;
 
 ghost use Rattle.std.specs.Prelude.{◌≡◌};
-ghost use Rattle.frame.specs.Piece.{piece_answer, read_piece, piece_bytes, piece_bytes_read};
-ghost use Rattle.frame.specs.Entry.{entry_answer, read_entry, header_bytes, header_bytes_read};
+ghost use Rattle.reason.specs.Answer.{answer_of};
+ghost use Rattle.frame.specs.Parts.{part_behind};
+ghost use Rattle.frame.specs.Piece.{read_piece, piece_bytes, piece_bytes_read};
+ghost use Rattle.frame.specs.Entry.{read_entry, header_bytes, header_bytes_read};
 
-use ax25::{DIRECTORY_PROTOCOL, FILE_PROTOCOL, HEAD_LENGTH, Head, HeadRead};
+use ax25::{DIRECTORY_PROTOCOL, FILE_PROTOCOL, HEAD_LENGTH, Head};
 use entries::BEFORE_HEADER;
 use header::Header;
 use pieces::BEFORE_DATA;
+use reason::Reason;
 
 // Where the bytes of a piece start in its frame: behind the head and the nine header bytes.
 pub const DATA_AT: usize = HEAD_LENGTH + BEFORE_DATA;
@@ -31,7 +34,8 @@ const CHECK_LENGTH: usize = 2;
 
 // A file piece's fields: both addresses, the file's number and type, and the place of the piece's first
 // byte in the file.
-#[derive(Clone, Copy)]
+// Kept: the type is a byte, since every byte is one that a file can have.
+#[derive(Clone, Copy, Debug, PartialEq, Eq)]
 pub struct Piece {
     pub head: Head,
     pub number: u32,
@@ -39,16 +43,9 @@ pub struct Piece {
     pub offset: u32,
 }
 
-// What reading a file piece finds: its fields, or the number of the reason.
-#[derive(Clone, Copy)]
-pub enum PieceRead {
-    Accepted(Piece),
-    Refused(u8),
-}
-
 // A directory entry's fields: both addresses, flags, the file's number, offset, time old, time new, and
 // the values of the file's header.
-#[derive(Clone, Copy)]
+#[derive(Clone, Copy, Debug, PartialEq, Eq)]
 pub struct Entry {
     pub head: Head,
     pub flags: u8,
@@ -59,22 +56,13 @@ pub struct Entry {
     pub header: Header,
 }
 
-// What reading a directory entry finds: its fields, or the number of the reason.
-#[derive(Clone, Copy)]
-pub enum EntryRead {
-    Accepted(Entry),
-    Refused(u8),
-}
-
 // Reads a frame as a file piece; refuses 1 (below 16), 2, 3, 4, 7 (over 255), 1 (information), 6, 5,
 // 7 (no data).
-pub fn read_piece(frame: &[u8]) -> PieceRead
-    ensures { piece_answer result ≡ read_piece frame.now }
+pub fn read_piece(frame: &[u8]) -> Result<Piece, Reason>
+    ensures { answer_of result ≡ read_piece frame.now }
 {
-    match ax25::read_head(frame, FILE_PROTOCOL) {
-        HeadRead::Accepted(head) => pieces::read(&frame[HEAD_LENGTH..], head),
-        HeadRead::Refused(n) => PieceRead::Refused(n),
-    }
+    let head = ax25::read_head(frame, FILE_PROTOCOL)?;
+    pieces::read(&frame[HEAD_LENGTH..], head)
 }
 
 // The piece itself: the frame's own bytes between the nine header bytes and the two check bytes. Of a
@@ -82,30 +70,27 @@ pub fn read_piece(frame: &[u8]) -> PieceRead
 pub fn piece_bytes(frame: &[u8]) -> &[u8]
     ensures { result.now ≡ piece_bytes frame.now }
 {
-    let read = read_piece(frame);
-    piece_of(frame, read)
+    piece_of(frame, read_piece(frame))
 }
 
 // The same for a frame that `read_piece` has read: its answer is handed in, and the check is not worked
 // out again. By the answer of another frame it hands out what stands at those places here.
-pub fn piece_of(frame: &[u8], read: PieceRead) -> &[u8]
-    ensures { result.now ≡ piece_bytes_read (piece_answer read) frame.now }
+pub fn piece_of(frame: &[u8], read: Result<Piece, Reason>) -> &[u8]
+    ensures { result.now ≡ piece_bytes_read (answer_of read) frame.now }
 {
     match read {
-        PieceRead::Accepted(_) => pieces::between(frame),
-        PieceRead::Refused(_) => &frame[0..0],
+        Ok(_) => between(frame, DATA_AT),
+        Err(_) => &[],
     }
 }
 
 // Reads a frame as a directory entry; refuses 1 (below 16), 2, 3, 4, 7 (over 255), 1 (information), 6,
 // 5, 14, 8.
-pub fn read_entry(frame: &[u8]) -> EntryRead
-    ensures { entry_answer result ≡ read_entry frame.now }
+pub fn read_entry(frame: &[u8]) -> Result<Entry, Reason>
+    ensures { answer_of result ≡ read_entry frame.now }
 {
-    match ax25::read_head(frame, DIRECTORY_PROTOCOL) {
-        HeadRead::Accepted(head) => entries::read(&frame[HEAD_LENGTH..], head),
-        HeadRead::Refused(n) => EntryRead::Refused(n),
-    }
+    let head = ax25::read_head(frame, DIRECTORY_PROTOCOL)?;
+    entries::read(&frame[HEAD_LENGTH..], head)
 }
 
 // An entry's file header: the frame's own bytes between time new and the two check bytes, in which
@@ -113,17 +98,24 @@ pub fn read_entry(frame: &[u8]) -> EntryRead
 pub fn header_bytes(frame: &[u8]) -> &[u8]
     ensures { result.now ≡ header_bytes frame.now }
 {
-    let read = read_entry(frame);
-    header_of(frame, read)
+    header_of(frame, read_entry(frame))
 }
 
 // The same for a frame that `read_entry` has read: its answer is handed in, and the frame is not read
 // again. By the answer of another frame it hands out what stands at those places here.
-pub fn header_of(frame: &[u8], read: EntryRead) -> &[u8]
-    ensures { result.now ≡ header_bytes_read (entry_answer read) frame.now }
+pub fn header_of(frame: &[u8], read: Result<Entry, Reason>) -> &[u8]
+    ensures { result.now ≡ header_bytes_read (answer_of read) frame.now }
 {
     match read {
-        EntryRead::Accepted(_) => entries::between(frame),
-        EntryRead::Refused(_) => &frame[0..0],
+        Ok(_) => between(frame, HEADER_AT),
+        Err(_) => &[],
     }
+}
+
+// The bytes of a frame from a place on and up to the two check bytes; none where they are not there.
+fn between(frame: &[u8], at: usize) -> &[u8]
+    ensures { result.now ≡ part_behind at frame.now }
+{
+    let end = frame.len().saturating_sub(CHECK_LENGTH);
+    frame.get(at..end).unwrap_or(&[])
 }

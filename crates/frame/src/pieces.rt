@@ -1,11 +1,12 @@
 // The information of a file piece.
 ghost use Rattle.std.specs.Prelude.{◌≡◌};
+ghost use Rattle.reason.specs.Answer.{answer_of};
 ghost use Rattle.reason.specs.Order.{first_of};
-ghost use Rattle.ax25.specs.Information.{information_of};
-ghost use Rattle.frame.specs.Piece.{piece_checks, piece_fields, piece_answer, data_part};
+ghost use Rattle.frame.specs.Piece.{piece_checks, piece_fields};
 
-use super::{CHECK_LENGTH, DATA_AT, Piece, PieceRead};
+use super::{CHECK_LENGTH, Piece};
 use ax25::Head;
+use reason::Reason;
 
 // The flags of every piece.
 const FLAGS: u8 = 0x02;
@@ -13,46 +14,32 @@ const FLAGS: u8 = 0x02;
 // How many bytes stand before the data: flags, number, type and offset, the nine header bytes.
 pub(crate) const BEFORE_DATA: usize = 9;
 
-// How many bytes a piece without data has, its information and its frame: the nine header bytes and the
-// check.
+// How many bytes of information a piece without data has: the nine header bytes and the check.
 const LEAST: usize = BEFORE_DATA + CHECK_LENGTH;
 
-const NO_DATA: usize = DATA_AT + CHECK_LENGTH;
-
 // Reads the information of a frame with the head; refuses 1, 6, 5, 7.
-pub(crate) fn read(s: &[u8], head: Head) -> PieceRead
-    ensures { piece_answer result ≡ first_of (piece_checks s.now) (piece_fields head s.now) }
+pub(crate) fn read(s: &[u8], head: Head) -> Result<Piece, Reason>
+    ensures { answer_of result ≡ first_of (piece_checks s.now) (piece_fields head s.now) }
 {
     if s.len() < LEAST {
-        return PieceRead::Refused(1);
+        return Err(Reason::Short);
     }
     if !remainder::check_right(s) {
-        return PieceRead::Refused(6);
+        return Err(Reason::Check);
     }
     if s[0] != FLAGS {
-        return PieceRead::Refused(5);
+        return Err(Reason::Flags);
     }
     if s.len() == LEAST {
-        return PieceRead::Refused(7);
+        return Err(Reason::Size);
     }
-    let number = octets::number4(s, 1);
+    let number = octets::number::<4>(s, 1) as u32;
     let kind = s[5];
-    let offset = octets::number3(s, 6);
-    PieceRead::Accepted(Piece {
+    let offset = octets::number::<3>(s, 6) as u32;
+    Ok(Piece {
         head,
         number,
         kind,
         offset,
     })
-}
-
-// The bytes of a frame between the nine header bytes and the two check bytes.
-pub(crate) fn between(frame: &[u8]) -> &[u8]
-    ensures { result.now ≡ data_part (information_of frame.now) }
-{
-    if frame.len() < NO_DATA {
-        return &frame[0..0];
-    }
-    let end = frame.len() - CHECK_LENGTH;
-    &frame[DATA_AT..end]
 }

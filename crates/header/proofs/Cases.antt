@@ -4,6 +4,7 @@ use mathlib.Core.Path.{◌≡◌, refl}
 use mathlib.Core.List.{List, [], ◌∷◌, ◌++◌}
 use Prim.Native.Nat.{ℕ}
 use lib.ListN.{take, drop, set, replicate}
+use Rattle.std.specs.Prelude.{Option, Some, None}
 use Rattle.reason.specs.Answer.{Answer, accepted, refused}
 use Rattle.reason.specs.Order.{first_of}
 use Rattle.octets.specs.Runs.{put_in}
@@ -12,8 +13,6 @@ use Rattle.header.specs.declared.Size.TheVariants.{Exactly, Any}
 use Rattle.header.specs.declared.Step.{Step}
 use Rattle.header.specs.declared.Step.TheVariants.{Found, Ended, Broken}
 use Rattle.header.specs.declared.Decision.{Decision}
-use Rattle.header.specs.declared.Upload.{Upload}
-use Rattle.header.specs.declared.Upload.TheVariants.{Time, Absent}
 use Rattle.header.specs.declared.Header.{Header}
 use Rattle.header.specs.Items.{mandatory_items, known_items, decision_of, step_with, step_at, Items, item, ended, items_from, items}
 use Rattle.header.specs.Header.{header_sum, header_of, keeps_rules, read_header}
@@ -90,11 +89,11 @@ abbrev short_twelve : List ℕ
 short_twelve = set (set (take 49 figure31 ++ 0x03 ∷ [] ++ take 3 (drop 50 figure31) ++ drop 54 figure31) 74 79) 69 0x7C
 
 -- the values of figure 3.1, with the body offset, the sum, the upload time and the header's length as given
-abbrev values : ℕ → ℕ → Upload → ℕ → Header
+abbrev values : ℕ → ℕ → Option ℕ → ℕ → Header
 values body sum upload size = record {
   number = 0x21E0;
-  name = record { c0 = 0x43; c1 = 0x4C; c2 = 0x39; c3 = 0x39; c4 = 0x31; c5 = 0x32; c6 = 0x30; c7 = 0x38 };
-  extension = record { c0 = 0x20; c1 = 0x20; c2 = 0x20 };
+  name = 0x43 ∷ 0x4C ∷ 0x39 ∷ 0x39 ∷ 0x31 ∷ 0x32 ∷ 0x30 ∷ 0x38 ∷ [];
+  extension = 0x20 ∷ 0x20 ∷ 0x20 ∷ [];
   length = 0x0B4E;
   created = 0x384DB0D5;
   modified = 0x384DB0D6;
@@ -111,8 +110,8 @@ values body sum upload size = record {
 abbrev told : Header
 told = record {
   number = 0x04030201;
-  name = record { c0 = 0x11; c1 = 0x12; c2 = 0x13; c3 = 0x14; c4 = 0x15; c5 = 0x16; c6 = 0x17; c7 = 0x18 };
-  extension = record { c0 = 0x21; c1 = 0x22; c2 = 0x23 };
+  name = 0x11 ∷ 0x12 ∷ 0x13 ∷ 0x14 ∷ 0x15 ∷ 0x16 ∷ 0x17 ∷ 0x18 ∷ [];
+  extension = 0x21 ∷ 0x22 ∷ 0x23 ∷ [];
   length = 0x06050B4E;
   created = 0x384DB0D5;
   modified = 0x384DB0D6;
@@ -121,7 +120,7 @@ told = record {
   bodysum = 0x99D4;
   headersum = 0x0BA9;
   body = 0x50;
-  upload = Time 0x384DB0D6;
+  upload = Some 0x384DB0D6;
   size = 80;
 }
 
@@ -143,12 +142,12 @@ answers =
 
 pub record Cases : Type 0 where
   pub sum_of_figure_3_1 : header_sum figure31 ≡ 0x0DB6
-  pub figure_3_1 : read_header figure31 0x21E0 ≡ accepted (values 0x50 0x0DB6 (Time 0x384DB0D6) 80)
-  pub body_behind : read_header (figure31 ++ 0x00 ∷ 0x23 ∷ 0x30 ∷ []) 0x21E0 ≡ accepted (values 0x50 0x0DB6 (Time 0x384DB0D6) 80)
+  pub figure_3_1 : read_header figure31 0x21E0 ≡ accepted (values 0x50 0x0DB6 (Some 0x384DB0D6) 80)
+  pub body_behind : read_header (figure31 ++ 0x00 ∷ 0x23 ∷ 0x30 ∷ []) 0x21E0 ≡ accepted (values 0x50 0x0DB6 (Some 0x384DB0D6) 80)
   pub items_of_figure_3_1 : items figure31 ≡ items31
   pub all_bytes_told : read_header of_bytes 0x04030201 ≡ accepted told
-  pub sum_beyond_16_bits : read_header beyond_16_bits 0x21E0 ≡ accepted (values 596 0x8D9B (Time 0x384DB0D6) 596)
-  pub any_order : read_header unordered 0x21E0 ≡ accepted (values 0x50 0x0DB6 (Time 0x384DB0D6) 80)
+  pub sum_beyond_16_bits : read_header beyond_16_bits 0x21E0 ≡ accepted (values 596 0x8D9B (Some 0x384DB0D6) 596)
+  pub any_order : read_header unordered 0x21E0 ≡ accepted (values 0x50 0x0DB6 (Some 0x384DB0D6) 80)
   pub other_number : read_header figure31 0x21E1 ≡ refused 8
   pub marker_wrong : read_header (set (set figure31 0 0xAB) 70 0xB7) 0x21E0 ≡ refused 8
   pub marker_wrong_behind : read_header (set (set figure31 1 0x54) 70 0xB5) 0x21E0 ≡ refused 8
@@ -156,9 +155,9 @@ pub record Cases : Type 0 where
   pub cut_in_end_item : read_header (take 79 figure31) 0x21E0 ≡ refused 8
   pub cut_before_end_item : read_header (take 77 figure31) 0x21E0 ≡ refused 8
   pub end_item_of_one : read_header (set (set figure31 79 0x01) 70 0xB7 ++ 0x00 ∷ []) 0x21E0 ≡ refused 8
-  pub upload_absent : read_header without_twelve 0x21E0 ≡ accepted (values 73 0x0B8E Absent 73)
-  pub other_item : read_header (twelve 0x30 0x00 0xD4) 0x21E0 ≡ accepted (values 0x50 0x0DD4 Absent 80)
-  pub id_has_two_bytes : read_header (twelve 0x12 0x01 0xB7) 0x21E0 ≡ accepted (values 0x50 0x0DB7 Absent 80)
+  pub upload_absent : read_header without_twelve 0x21E0 ≡ accepted (values 73 0x0B8E None 73)
+  pub other_item : read_header (twelve 0x30 0x00 0xD4) 0x21E0 ≡ accepted (values 0x50 0x0DD4 None 80)
+  pub id_has_two_bytes : read_header (twelve 0x12 0x01 0xB7) 0x21E0 ≡ accepted (values 0x50 0x0DB7 None 80)
   pub item_twice : read_header (twelve 0x05 0x00 0xA9) 0x21E0 ≡ refused 8
   pub item_missing : answers ≡ replicate 11 (refused 8)
   pub item_beside : read_header beside_five 0x21E0 ≡ refused 8
@@ -166,7 +165,7 @@ pub record Cases : Type 0 where
   pub item_too_long : read_header long_seven 0x21E0 ≡ refused 8
   pub upload_too_short : read_header short_twelve 0x21E0 ≡ refused 8
   pub body_in_header : read_header (body 0x4F 0x00 0xB5) 0x21E0 ≡ refused 8
-  pub body_at_end_of_file : read_header (body 0x4E 0x0B 0xBF) 0x21E0 ≡ accepted (values 0x0B4E 0x0DBF (Time 0x384DB0D6) 80)
+  pub body_at_end_of_file : read_header (body 0x4E 0x0B 0xBF) 0x21E0 ≡ accepted (values 0x0B4E 0x0DBF (Some 0x384DB0D6) 80)
   pub body_beyond_file : read_header (body 0x4F 0x0B 0xC0) 0x21E0 ≡ refused 8
   pub sum_over_itself : read_header (set (set figure31 70 0x79) 71 0x0E) 0x21E0 ≡ refused 8
   pub name_bytes : data_of 0x02 figure31 ≡ 0x43 ∷ 0x4C ∷ 0x39 ∷ 0x39 ∷ 0x31 ∷ 0x32 ∷ 0x30 ∷ 0x38 ∷ []

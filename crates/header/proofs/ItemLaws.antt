@@ -27,32 +27,22 @@ pub record Next (s : List ℕ) (at : ℕ) (i : Item) (c : Cursor) : Type 0 where
   pub within : c.at ≤ length s
   pub allowed : allows_size (decision_of i.id).size i.size ≡ true
 
--- no two of a step's answers are the same
-broken_found : (i : Item) (c : Cursor) → Broken ≡ Found i c → ⊥
-broken_found i c h = let z : ◌≡◌ {A = ℕ} 0 1 = cc in omega arith
-
-broken_ended : (c : Cursor) → Broken ≡ Ended c → ⊥
-broken_ended c h = let z : ◌≡◌ {A = ℕ} 0 1 = cc in omega arith
-
-ended_found : (l c : Cursor) (i : Item) → Ended l ≡ Found i c → ⊥
-ended_found l c i h = let z : ◌≡◌ {A = ℕ} 0 1 = cc in omega arith
-
 -- the tests that a step went by, by what it found
 found_by : (a b d e : Bool) (l : Cursor) (i j : Item) (c k : Cursor)
     → cond a Broken (cond b Broken (cond d (Ended l) (cond e Broken (Found j k)))) ≡ Found i c → (e ≡ false) × (j ≡ i) × (k ≡ c) × (b ≡ false)
 found_by false false false false l i j c k h = (refl, (cc), (cc), refl)
-found_by false false false true l i j c k h = absurd (broken_found i c h)
-found_by false false true e l i j c k h = absurd (ended_found l c i h)
-found_by false true d e l i j c k h = absurd (broken_found i c h)
-found_by true b d e l i j c k h = absurd (broken_found i c h)
+found_by false false false true l i j c k h = cc
+found_by false false true e l i j c k h = cc
+found_by false true d e l i j c k h = cc
+found_by true b d e l i j c k h = cc
 
 ended_by : (a b d e : Bool) (l c k : Cursor) (j : Item)
     → cond a Broken (cond b Broken (cond d (Ended l) (cond e Broken (Found j k)))) ≡ Ended c → (a ≡ false) × (l ≡ c)
 ended_by false false true e l c k j h = (refl, (cc))
-ended_by false false false false l c k j h = absurd (ended_found c k j (sym h))
-ended_by false false false true l c k j h = absurd (broken_ended c h)
-ended_by false true d e l c k j h = absurd (broken_ended c h)
-ended_by true b d e l c k j h = absurd (broken_ended c h)
+ended_by false false false false l c k j h = cc
+ended_by false false false true l c k j h = cc
+ended_by false true d e l c k j h = cc
+ended_by true b d e l c k j h = cc
 
 module _ (s : List ℕ) (at : ℕ) where
   abbrev Id : ℕ
@@ -123,6 +113,13 @@ ended_by_told s at {r} {c} told e = ends s at c (sym e ∙ told)
 pub last_more : (s : List ℕ) (at : ℕ) {r : Step} {i : Item} {c : Cursor} → r ≡ Found i c → r ≡ step_at s at → (f : Item → ℕ) (d id : ℕ)
     → last_of f (cond (eqb i.id id) (f i) d) id (items_from s c.at) ≡ last_of f d id (items_from s at)
 last_more s at told e f d id = ap (last_of f d id) (sym (items_by s at told e))
+
+-- .. and when it finds none, none is left
+pub last_left : (s : List ℕ) (at : ℕ) (r : Step) → ((i : Item) (c : Cursor) → r ≡ Found i c → ⊥) → r ≡ step_at s at → (f : Item → ℕ) (d id : ℕ)
+    → last_of f d id (items_from s at) ≡ d
+last_left s at (Found i c) left e f d id = absurd (left i c refl)
+last_left s at (Ended c) left e f d id = ap (last_of f d id) (items_by s at {t = Ended c} refl e)
+last_left s at Broken left e f d id = ap (last_of f d id) (items_by s at {t = Broken} refl e)
 
 -- the data of an item end within the list, and so does the header
 abbrev Start : Item → ℕ

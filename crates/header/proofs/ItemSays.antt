@@ -9,6 +9,7 @@ use native.Mathlib.Omega.{arith}
 use lib.Dec.{eqb}
 use lib.ListN.{length, get_or, take, drop}
 use borrow.Author.Tests.{eqb-true, eq-eqb, ne_eqb}
+use Rattle.std.specs.Prelude.{Some, None}
 use Rattle.reason.specs.Answer.{accepted}
 use Rattle.octets.specs.Lists.{OneOf}
 use Rattle.octets.specs.Numbers.{number_at}
@@ -19,7 +20,6 @@ use Rattle.header.specs.declared.Item.{Item}
 use Rattle.header.specs.declared.Step.{Step}
 use Rattle.header.specs.declared.Step.TheVariants.{Found, Ended, Broken}
 use Rattle.header.specs.declared.Pair.{Pair}
-use Rattle.header.specs.declared.Upload.TheVariants.{Time, Absent}
 use Rattle.header.specs.declared.Header.{Header}
 use Rattle.header.specs.Items.{Known, known, mandatory_items, known_items, look_up, decision_of, step_at, Items, item, ended, broken, after, steps, items_from, items, count_of, last_of}
 use Rattle.header.specs.Header.{mandatory, read_header}
@@ -142,8 +142,8 @@ module _ (s : List ℕ) (number : ℕ) (h : Header) (e : read_header s number �
       let some : 1 ≤ count_of (items s) 0x12 = omega (arith, among_counts j (items s) m, ap (count_of (items s)) is) in
       let there : eqb (count_of (items s) 0x12) 0 ≡ false = ne_eqb (count_of (items s) 0x12) 0 (λ z. omega (arith, z, some)) in
       says.upload
-      ∙ ap (λ (b : Bool). cond b Absent (Time (number_at 4 (data_of 0x12 s) 0))) there
-      ∙ ap (λ (d : List ℕ). Time (number_at 4 d 0)) (bytes_are 0x12 says.ruled.upload j m is)
+      ∙ ap (λ (b : Bool). cond b None (Some (number_at 4 (data_of 0x12 s) 0))) there
+      ∙ ap (λ (d : List ℕ). Some (number_at 4 d 0)) (bytes_are 0x12 says.ruled.upload j m is)
 
   -- a value that is the bytes of its item's data, or their number
   spelled : (id : ℕ) (bytes : List ℕ) → bytes ≡ data_of id s → count_of (items s) id ≤ 1 → (j : Item) → Among j (items s) → j.id ≡ id → bytes ≡ Bytes j

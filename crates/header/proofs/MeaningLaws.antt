@@ -8,43 +8,17 @@ use native.Mathlib.Omega.{arith}
 use lib.Dec.{eqb}
 use borrow.Author.Tests.{eqb-true, eqb-false, eq-eqb, ne_eqb}
 use Rattle.header.specs.declared.Meaning.{Meaning}
-use Rattle.header.specs.declared.Meaning.TheVariants.{End, FileNumber, FileName, FileExtension, FileLength, CreationTime, ModificationTime, UpsetFlag, FileType, BodySum, HeaderSum, BodyOffset, UploadTime, Other}
+use Rattle.header.specs.declared.Meaning.TheVariants.{UploadTime, Other}
 use Rattle.header.specs.declared.Size.TheVariants.{Exactly}
 use Rattle.header.specs.Items.{Known, known, mandatory_items, known_items, look_up, decision_of}
 use Rattle.header.specs.Notes.{place_of, places, Placed}
 
 -- every meaning has a place, and every one but `Other` a place before the last
 pub place_below : (m : Meaning) → place_of m < places
-place_below End = omega arith
-place_below FileNumber = omega arith
-place_below FileName = omega arith
-place_below FileExtension = omega arith
-place_below FileLength = omega arith
-place_below CreationTime = omega arith
-place_below ModificationTime = omega arith
-place_below UpsetFlag = omega arith
-place_below FileType = omega arith
-place_below BodySum = omega arith
-place_below HeaderSum = omega arith
-place_below BodyOffset = omega arith
-place_below UploadTime = omega arith
-place_below Other = omega arith
+place_below m = grind arith
 
 own_place : (m : Meaning) → (m ≡ Other → ⊥) → place_of m < place_of Other
-own_place End d = omega arith
-own_place FileNumber d = omega arith
-own_place FileName d = omega arith
-own_place FileExtension d = omega arith
-own_place FileLength d = omega arith
-own_place CreationTime d = omega arith
-own_place ModificationTime d = omega arith
-own_place UpsetFlag d = omega arith
-own_place FileType d = omega arith
-own_place BodySum d = omega arith
-own_place HeaderSum d = omega arith
-own_place BodyOffset d = omega arith
-own_place UploadTime d = omega arith
-own_place Other d = absurd (d refl)
+own_place m d = grind arith
 
 -- the id whose meaning has a place: the place itself but for item 12
 abbrev id_at : ℕ → ℕ

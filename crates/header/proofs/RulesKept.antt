@@ -4,59 +4,58 @@ use mathlib.Core.Path.{◌≡◌, refl}
 use mathlib.Core.Bool.{Bool, true, false, ◌&&◌}
 use mathlib.Core.List.{List}
 use Prim.Native.Nat.{ℕ}
-use lib.Dec.{leb, eqb}
+use native.Mathlib.Omega.{arith}
+use Rattle.std.proofs.lemmas.Bool.{and_parts}
+use Rattle.std.proofs.lemmas.Bool.Decides.{nat_tests}
+use Rattle.reason.proofs.Bools.{and_both}
+use Rattle.octets.specs.Lists.{OneOf}
+use Rattle.header.specs.declared.Pair.{Pair}
 use borrow.Author.Tests.{eqb-true, eq-eqb, leb-true, le-leb}
 use Rattle.reason.specs.Answer.{accepted, refused}
-use Rattle.reason.proofs.Bools.{and_left, and_right, and_both}
 use Rattle.reason.proofs.OrderLaws.{not_both}
-use Rattle.octets.specs.Numbers.{byte_at}
 use Rattle.header.specs.declared.Header.{Header}
 use Rattle.header.specs.Items.{items, count_of, size_of, comes_to_end}
-use Rattle.header.specs.Header.{begins_right, all_once, upload_right, values_right, header_length, mandatory, once, header_sum, header_of, keeps_rules, read_header}
-use Rattle.header.specs.Rules.{value_of, Rules}
+use Rattle.header.specs.Header.{begins_right, all_once, upload_right, values_right, mandatory, once, header_of, keeps_rules, read_header}
+use Rattle.header.specs.Rules.{Rules}
 use Rattle.header.proofs.TableLaws.{each, all_pass}
 use Rattle.header.proofs.HeaderLaws.{reads_8, reads_header, header_accepted, header_refused}
 
+-- four and five tests that all pass, from each and to each
+all_4 : (a b c d : Bool) → a ≡ true → b ≡ true → c ≡ true → d ≡ true → (a && b && c && d) ≡ true
+all_4 a b c d p q r s = rw (p, q, r, s)
+
+pub all_5 : (a b c d e : Bool) → a ≡ true → b ≡ true → c ≡ true → d ≡ true → e ≡ true → (a && b && c && d && e) ≡ true
+all_5 a b c d e p q r s t = rw (p, q, r, s, t)
+
+each_4 : (a b c d : Bool) → (a && b && c && d) ≡ true → (a ≡ true) × (b ≡ true) × (c ≡ true) × (d ≡ true)
+each_4 a b c d h = (grind (arith, nat_tests), grind (arith, nat_tests), grind (arith, nat_tests), grind (arith, nat_tests))
+
+each_5 : (a b c d e : Bool) → (a && b && c && d && e) ≡ true → (a ≡ true) × (b ≡ true) × (c ≡ true) × (d ≡ true) × (e ≡ true)
+each_5 a b c d e h = (grind (arith, nat_tests), grind (arith, nat_tests), grind (arith, nat_tests), grind (arith, nat_tests), grind (arith, nat_tests))
+
 module _ (s : List ℕ) (number : ℕ) where
-  -- the four parts of the test of the values
-  abbrev Sum : Bool
-  Sum = eqb (value_of 0x0A 2 s) (header_sum s)
-
-  abbrev Own : Bool
-  Own = eqb (value_of 0x01 4 s) number
-
-  abbrev Behind : Bool
-  Behind = leb (header_length s) (value_of 0x0B 2 s)
-
-  abbrev Before : Bool
-  Before = leb (value_of 0x0B 2 s) (value_of 0x04 4 s)
-
   pub rules : keeps_rules s number ≡ true → Rules s number
   unfolding keeps_rules header_of
   rules k =
-      let four = and_left (begins_right s && comes_to_end (items s) && all_once s && upload_right s) (Sum && Own && Behind && Before) k in
-      let values = and_right (begins_right s && comes_to_end (items s) && all_once s && upload_right s) (Sum && Own && Behind && Before) k in
-      let three = and_left (begins_right s && comes_to_end (items s) && all_once s) (upload_right s) four in
-      let two = and_left (begins_right s && comes_to_end (items s)) (all_once s) three in
-      let listed = and_right (begins_right s && comes_to_end (items s)) (all_once s) three in
-      let begun = and_left (begins_right s) (comes_to_end (items s)) two in
-      let sums = and_left (Sum && Own && Behind) Before values in
-      let owns = and_left (Sum && Own) Behind sums in
+      let five = each_5 (begins_right s) (comes_to_end (items s)) (all_once s) (upload_right s) (values_right s number) k in
+      let begun = and_parts _ _ five.0 in
+      let values = each_4 _ _ _ _ five.4 in
+      let listed = λ (p : Pair) (m : OneOf p mandatory). and_parts _ _ (each (once (count_of (items s)) (size_of (items s))) mandatory five.2 p m) in
       record {
-        marker = (eqb-true _ _ (and_left (eqb (byte_at s 0) 0xAA) (eqb (byte_at s 1) 0x55) begun), eqb-true _ _ (and_right (eqb (byte_at s 0) 0xAA) (eqb (byte_at s 1) 0x55) begun));
-        ends = and_right (begins_right s) (comes_to_end (items s)) two;
-        each_once = λ p m. eqb-true _ _ (and_left (eqb (count_of (items s) p.id) 1) (eqb (size_of (items s) p.id) p.size) (each (once (count_of (items s)) (size_of (items s))) mandatory listed p m));
-        each_sized = λ p m. eqb-true _ _ (and_right (eqb (count_of (items s) p.id) 1) (eqb (size_of (items s) p.id) p.size) (each (once (count_of (items s)) (size_of (items s))) mandatory listed p m));
-        upload = leb-true _ _ (and_right (begins_right s && comes_to_end (items s) && all_once s) (upload_right s) four);
-        sum = eqb-true _ _ (and_left Sum Own owns);
-        numbered = eqb-true _ _ (and_right Sum Own owns);
-        behind = leb-true _ _ (and_right (Sum && Own) Behind sums);
-        before = leb-true _ _ (and_right (Sum && Own && Behind) Before values);
+        marker = (eqb-true _ _ begun.0, eqb-true _ _ begun.1);
+        ends = five.1;
+        each_once = λ p m. eqb-true _ _ (listed p m).0;
+        each_sized = λ p m. eqb-true _ _ (listed p m).1;
+        upload = leb-true _ _ five.3;
+        sum = eqb-true _ _ values.0;
+        numbered = eqb-true _ _ values.1;
+        behind = leb-true _ _ values.2;
+        before = leb-true _ _ values.3;
       }
 
   -- the tests, by the rules
   pub begins_kept : Rules s number → begins_right s ≡ true
-  begins_kept r = and_both (eqb (byte_at s 0) 0xAA) (eqb (byte_at s 1) 0x55) (eq-eqb _ _ r.marker.0) (eq-eqb _ _ r.marker.1)
+  begins_kept r = and_both _ _ (eq-eqb _ _ r.marker.0) (eq-eqb _ _ r.marker.1)
 
   pub once_kept : Rules s number → all_once s ≡ true
   once_kept r =
@@ -64,17 +63,11 @@ module _ (s : List ℕ) (number : ℕ) where
 
   pub values_kept : Rules s number → values_right s number ≡ true
   unfolding header_of
-  values_kept r =
-      let owns = and_both Sum Own (eq-eqb _ _ r.sum) (eq-eqb _ _ r.numbered) in
-      and_both (Sum && Own && Behind) Before (and_both (Sum && Own) Behind owns (le-leb _ _ r.behind)) (le-leb _ _ r.before)
+  values_kept r = all_4 _ _ _ _ (eq-eqb _ _ r.sum) (eq-eqb _ _ r.numbered) (le-leb _ _ r.behind) (le-leb _ _ r.before)
 
   pub kept : Rules s number → keeps_rules s number ≡ true
   unfolding keeps_rules
-  kept r =
-      let two = and_both (begins_right s) (comes_to_end (items s)) (begins_kept r) r.ends in
-      let three = and_both (begins_right s && comes_to_end (items s)) (all_once s) two (once_kept r) in
-      let four = and_both (begins_right s && comes_to_end (items s) && all_once s) (upload_right s) three (le-leb _ _ r.upload) in
-      and_both (begins_right s && comes_to_end (items s) && all_once s && upload_right s) (values_right s number) four (values_kept r)
+  kept r = all_5 _ _ _ _ _ (begins_kept r) r.ends (once_kept r) (le-leb _ _ r.upload) (values_kept r)
 
   -- accepted exactly if it keeps them, and then with its values
   pub accepts_if : Rules s number → read_header s number ≡ accepted (header_of s)

@@ -2,7 +2,7 @@
 -- Assumes nothing.
 use mathlib.Core.Path.{◌≡◌, refl, sym, ap, subst, ◌∙◌}
 use mathlib.Core.Bool.{Bool, true, false, cond}
-use mathlib.Core.List.{List, [], ◌∷◌}
+use mathlib.Core.List.{List, ◌∷◌}
 use Prim.Native.Nat.{ℕ, zero, suc, ◌+◌, ◌≤◌, ◌<◌}
 use native.Mathlib.Nat.{add-zero}
 use native.Mathlib.Omega.{arith}
@@ -10,15 +10,16 @@ use lib.Dec.{eqb}
 use lib.ListN.{length, get_or, take, drop}
 use lib.Seq.{drop-cons}
 use borrow.Author.Tests.{eqb-false}
+use Rattle.std.specs.Prelude.{Some, None}
 use Rattle.reason.specs.Answer.{accepted}
 use Rattle.octets.specs.Lists.{OneOf}
 use Rattle.octets.specs.Numbers.{byte_at, number_at}
+use Rattle.octets.specs.Values.{values_from}
 use Rattle.octets.proofs.NumberLaws.{number_drop, number_take}
-use Rattle.header.specs.declared.Upload.TheVariants.{Time, Absent}
 use Rattle.header.specs.declared.Pair.{Pair}
 use Rattle.header.specs.declared.Header.{Header}
 use Rattle.header.specs.Items.{mandatory_items, items, count_of, start_of, size_of}
-use Rattle.header.specs.Header.{mandatory, name_at, extension_at, name_bytes, extension_bytes, header_of, read_header}
+use Rattle.header.specs.Header.{mandatory, header_of, read_header}
 use Rattle.header.specs.Rules.{Rules}
 use Rattle.header.specs.Data.{data_of}
 use Rattle.header.specs.Says.{HeaderSays}
@@ -26,30 +27,10 @@ use Rattle.header.proofs.TableLaws.{in_list, eleven}
 use Rattle.header.proofs.ItemLaws.{item_within, end_within, upload_sized}
 use Rattle.header.proofs.RulesKept.{accepts_only_if}
 
--- the values of f at n places from k on
-abbrev from : (ℕ → ℕ) → ℕ → ℕ → List ℕ
-from f k zero = []
-from f k (suc n) = f k ∷ from f (suc k) n
-
 -- a part of a list, byte by byte
-part : (s : List ℕ) (at k n : ℕ) → at + k + n ≤ length s → take n (drop (at + k) s) ≡ from (λ j. byte_at s (at + j)) k n
-part s at k zero h = refl
-part s at k (suc n) h =
-    let next : suc (at + k) ≡ at + suc k = omega arith in
-    ap (take (suc n)) (drop-cons s (at + k) 0 (omega arith))
-    ∙ ap (λ (l : List ℕ). byte_at s (at + k) ∷ l) (ap (λ (m : ℕ). take n (drop m s)) next ∙ part s at (suc k) n (omega arith))
-
-eight : (s : List ℕ) (at : ℕ) → at + 8 ≤ length s → take 8 (drop at s) ≡ name_bytes (name_at s at)
-eight s at h =
-    ap (λ (m : ℕ). take 8 (drop m s)) (sym (add-zero at)) ∙ part s at 0 8 (omega arith) ∙ ap (λ (m : ℕ). byte_at s m ∷ from (λ j. byte_at s (at + j)) 1 7) (add-zero at)
-
-three : (s : List ℕ) (at : ℕ) → at + 3 ≤ length s → take 3 (drop at s) ≡ extension_bytes (extension_at s at)
-three s at h =
-    ap (λ (m : ℕ). take 3 (drop m s)) (sym (add-zero at)) ∙ part s at 0 3 (omega arith) ∙ ap (λ (m : ℕ). byte_at s m ∷ from (λ j. byte_at s (at + j)) 1 2) (add-zero at)
-
-some : (n : ℕ) → (n ≡ 0 → ⊥) → 1 ≤ n
-some zero h = absurd (h refl)
-some (suc n) h = omega arith
+part : (s : List ℕ) (at n : ℕ) → at + n ≤ length s → values_from (byte_at s) at n ≡ take n (drop at s)
+part s at zero h = refl
+part s at (suc n) h = ap (λ (l : List ℕ). byte_at s at ∷ l) (part s (suc at) n (omega arith)) ∙ ap (take (suc n)) (sym (drop-cons s at 0 (omega arith)))
 
 -- a number in an item's data
 in_item : (n id : ℕ) (s : List ℕ) → size_of (items s) id ≡ n → number_at n s (start_of (items s) id) ≡ number_at n (data_of id s) 0
@@ -64,10 +45,15 @@ module _ (s : List ℕ) (number : ℕ) (r : Rules s number) where
   listed : (k id size : ℕ) → k < 11 → get_or mandatory k (record { id = 0; size = 0 }) ≡ record { id = id; size = size } → size_of (items s) id ≡ size
   listed k id size h e = r.each_sized (record { id = id; size = size }) (subst (λ (p : Pair). OneOf p mandatory) e (in_list mandatory (record { id = 0; size = 0 }) k (omega (arith, eleven))))
 
+  -- the bytes of an item
+  spelled : (id n : ℕ) → size_of (items s) id ≡ n → values_from (byte_at s) (start_of (items s) id) n ≡ data_of id s
+  unfolding data_of
+  spelled id n h = part s (start_of (items s) id) n (omega (arith, item_within s id)) ∙ ap (λ (m : ℕ). take m (drop (start_of (items s) id) s)) (sym h)
+
   upload_by : (b : Bool) → eqb (count_of (items s) 0x12) 0 ≡ b
-      → cond b Absent (Time (number_at 4 s (start_of (items s) 0x12))) ≡ cond b Absent (Time (number_at 4 (data_of 0x12 s) 0))
+      → cond b None (Some (number_at 4 s (start_of (items s) 0x12))) ≡ cond b None (Some (number_at 4 (data_of 0x12 s) 0))
   upload_by true e = refl
-  upload_by false e = ap Time (in_item 4 0x12 s (upload_sized s (some (count_of (items s) 0x12) (eqb-false (count_of (items s) 0x12) 0 e))))
+  upload_by false e = ap Some (in_item 4 0x12 s (upload_sized s (omega (arith, eqb-false (count_of (items s) 0x12) 0 e))))
 
   says : HeaderSays s number (header_of s)
   unfolding header_of mandatory_items data_of
@@ -85,12 +71,8 @@ module _ (s : List ℕ) (number : ℕ) (r : Rules s number) where
     bodysum = in_item 2 0x09 s (listed 8 0x09 2 (omega arith) refl);
     headersum = in_item 2 0x0A s (listed 9 0x0A 2 (omega arith) refl);
     body = in_item 2 0x0B s (listed 10 0x0B 2 (omega arith) refl);
-    name =
-        let size : size_of (items s) 0x02 ≡ 8 = listed 1 0x02 8 (omega arith) refl in
-        sym (ap (λ (n : ℕ). take n (drop (start_of (items s) 0x02) s)) size ∙ eight s (start_of (items s) 0x02) (omega (arith, item_within s 0x02)));
-    extension =
-        let size : size_of (items s) 0x03 ≡ 3 = listed 2 0x03 3 (omega arith) refl in
-        sym (ap (λ (n : ℕ). take n (drop (start_of (items s) 0x03) s)) size ∙ three s (start_of (items s) 0x03) (omega (arith, item_within s 0x03)));
+    name = spelled 0x02 8 (listed 1 0x02 8 (omega arith) refl);
+    extension = spelled 0x03 3 (listed 2 0x03 3 (omega arith) refl);
     upload = upload_by (eqb (count_of (items s) 0x12) 0) refl;
     behind = r.behind;
     before = r.before;

@@ -14,21 +14,22 @@ use Rattle.octets.specs.Lists.{OneOf}
 use Rattle.header.specs.declared.Pair.{Pair}
 use Rattle.header.specs.declared.Meaning.TheVariants.{Other}
 use Rattle.header.specs.Items.{mandatory_items, known_items, decision_of}
-use Rattle.header.specs.Header.{mandatory, every_pair}
+use Rattle.std.specs.List.{list_all}
+use Rattle.header.specs.Header.{mandatory}
 use Rattle.header.specs.Notes.{place_of, Placed}
 
 -- every pair passes a test exactly if each pair in the list does
-pub each : (test : Pair → Bool) (ps : List Pair) → every_pair test ps ≡ true → (p : Pair) → OneOf p ps → test p ≡ true
+pub each : (test : Pair → Bool) (ps : List Pair) → list_all test ps ≡ true → (p : Pair) → OneOf p ps → test p ≡ true
 each test [] e p m = absurd m
-each test (q ∷ ps) e p (inl s) = ap test s ∙ and_left (test q) (every_pair test ps) e
-each test (q ∷ ps) e p (inr m) = each test ps (and_right (test q) (every_pair test ps) e) p m
+each test (q ∷ ps) e p (inl s) = ap test s ∙ and_left (test q) (list_all test ps) e
+each test (q ∷ ps) e p (inr m) = each test ps (and_right (test q) (list_all test ps) e) p m
 
-pub all_pass : (test : Pair → Bool) (ps : List Pair) → ((p : Pair) → OneOf p ps → test p ≡ true) → every_pair test ps ≡ true
+pub all_pass : (test : Pair → Bool) (ps : List Pair) → ((p : Pair) → OneOf p ps → test p ≡ true) → list_all test ps ≡ true
 all_pass test [] h = refl
-all_pass test (q ∷ ps) h = and_both (test q) (every_pair test ps) (h q (inl refl)) (all_pass test ps (λ p m. h p (inr m)))
+all_pass test (q ∷ ps) h = and_both (test q) (list_all test ps) (h q (inl refl)) (all_pass test ps (λ p m. h p (inr m)))
 
 -- two tests that agree on each pair agree on the list
-pub every_same : (f g : Pair → Bool) (ps : List Pair) → ((p : Pair) → OneOf p ps → f p ≡ g p) → every_pair f ps ≡ every_pair g ps
+pub every_same : (f g : Pair → Bool) (ps : List Pair) → ((p : Pair) → OneOf p ps → f p ≡ g p) → list_all f ps ≡ list_all g ps
 every_same f g [] h = refl
 every_same f g (q ∷ ps) h = ap₂ ◌&&◌ (h q (inl refl)) (every_same f g ps (λ p m. h p (inr m)))
 
@@ -46,7 +47,7 @@ eleven = refl
 abbrev is_placed : Pair → Bool
 is_placed p = ltb (place_of (decision_of p.id).meaning) (place_of Other)
 
-all_placed : every_pair is_placed mandatory ≡ true
+all_placed : list_all is_placed mandatory ≡ true
 unfolding decision_of known_items mandatory_items
 all_placed = refl
 

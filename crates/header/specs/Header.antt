@@ -1,18 +1,14 @@
 -- When a file header is accepted, and the values that it then gives (01, "File header").
 -- Assumes nothing.
-use Rattle.std.specs.Prelude.{Bool, true, not, cond, ◌&&◌, List, [], ◌∷◌, ℕ, ◌+◌, ◌%◌, leb, eqb, take}
-use Rattle.reason.specs.Answer.{Answer, accepted, refused}
+use Rattle.std.specs.Prelude.{Bool, not, cond, ◌&&◌, List, [], ◌∷◌, ℕ, ◌%◌, leb, eqb, take, Option, Some, None, sum}
+use Rattle.std.specs.List.{list_all}
+use Rattle.reason.specs.Answer.{Answer}
 use Rattle.reason.specs.Order.{Check, check, first_of}
 use Rattle.octets.specs.Numbers.{byte_at, number_at}
+use Rattle.octets.specs.Values.{values_from}
 use Rattle.octets.specs.Runs.{put_in}
 use Rattle.header.specs.declared.Pair.{Pair}
-use Rattle.header.specs.declared.Name.{Name}
-use Rattle.header.specs.declared.Extension.{Extension}
-use Rattle.header.specs.declared.Upload.{Upload}
-use Rattle.header.specs.declared.Upload.TheVariants.{Time, Absent}
 use Rattle.header.specs.declared.Header.{Header}
-use Rattle.header.specs.declared.HeaderRead.{HeaderRead}
-use Rattle.header.specs.declared.HeaderRead.TheVariants.{Accepted, Refused}
 use Rattle.header.specs.Items.{Known, known, mandatory_items, items, count_of, start_of, size_of, comes_to_end, behind_end}
 
 -- the first two bytes are AA 55
@@ -32,55 +28,29 @@ pairs_of (known id size meaning ∷ rest) = record { id = id; size = size } ∷ 
 abbrev pub mandatory : List Pair
 mandatory = pairs_of mandatory_items
 
--- every pair passes the test
-abbrev pub every_pair : (Pair → Bool) → List Pair → Bool
-every_pair test [] = true
-every_pair test (p ∷ rest) = test p && every_pair test rest
-
 -- the pair's item is there exactly once, with its length; count and size tell of each id how many items have it, and how
 -- long their data are
 abbrev pub once : (ℕ → ℕ) → (ℕ → ℕ) → Pair → Bool
 once count size p = eqb (count p.id) 1 && eqb (size p.id) p.size
 
--- the sum of bytes
-abbrev pub sum_of : List ℕ → ℕ
-sum_of [] = 0
-sum_of (b ∷ s) = b + sum_of s
-
 -- the sum of all header bytes modulo 65,536, with item 0A's own two data bytes taken as 0
 unfoldable pub header_sum : List ℕ → ℕ
-header_sum s = sum_of (put_in (take (header_length s) s) (start_of (items s) 0x0A) (0 ∷ 0 ∷ [])) % 65536
+header_sum s = sum (put_in (take (header_length s) s) (start_of (items s) 0x0A) (0 ∷ 0 ∷ [])) % 65536
 
 -- item 0A is the sum, item 01 the file's number, and item 0B (body) at least the header's length (size) and at most item 04 (length)
 abbrev pub values_agree : Header → ℕ → ℕ → Bool
 values_agree h sum number = eqb h.headersum sum && eqb h.number number && leb h.size h.body && leb h.body h.length
 
--- the bytes of items 02 and 03 in their order
-abbrev pub name_at : List ℕ → ℕ → Name
-name_at s at = record {
-  c0 = byte_at s at;
-  c1 = byte_at s (at + 1);
-  c2 = byte_at s (at + 2);
-  c3 = byte_at s (at + 3);
-  c4 = byte_at s (at + 4);
-  c5 = byte_at s (at + 5);
-  c6 = byte_at s (at + 6);
-  c7 = byte_at s (at + 7);
-}
+-- the bytes of items 02 and 03 in their order, which start at the place
+abbrev pub name_at : List ℕ → ℕ → List ℕ
+name_at s at = values_from (byte_at s) at 8
 
-abbrev pub extension_at : List ℕ → ℕ → Extension
-extension_at s at = record { c0 = byte_at s at; c1 = byte_at s (at + 1); c2 = byte_at s (at + 2) }
-
--- the bytes of a name and of an extension, in their order
-abbrev pub name_bytes : Name → List ℕ
-name_bytes n = n.c0 ∷ n.c1 ∷ n.c2 ∷ n.c3 ∷ n.c4 ∷ n.c5 ∷ n.c6 ∷ n.c7 ∷ []
-
-abbrev pub extension_bytes : Extension → List ℕ
-extension_bytes e = e.c0 ∷ e.c1 ∷ e.c2 ∷ []
+abbrev pub extension_at : List ℕ → ℕ → List ℕ
+extension_at s at = values_from (byte_at s) at 3
 
 -- item 12 where it is present; count is how many items 12 there are, and at is where the last one's data start
-abbrev pub upload_by : ℕ → ℕ → List ℕ → Upload
-upload_by count at s = cond (eqb count 0) Absent (Time (number_at 4 s at))
+abbrev pub upload_by : ℕ → ℕ → List ℕ → Option ℕ
+upload_by count at s = cond (eqb count 0) None (Some (number_at 4 s at))
 
 -- the values of all items of a header of so many bytes; count and start tell of each id how many items have it, and where their
 -- data start
@@ -107,7 +77,7 @@ header_of s = values_by (count_of (items s)) (start_of (items s)) (header_length
 
 -- each mandatory item is there exactly once, with its length
 abbrev pub all_once : List ℕ → Bool
-all_once s = every_pair (once (count_of (items s)) (size_of (items s))) mandatory
+all_once s = list_all (once (count_of (items s)) (size_of (items s))) mandatory
 
 -- item 12 is there at most once
 abbrev pub upload_right : List ℕ → Bool
@@ -128,8 +98,3 @@ header_checks s number = check (not (keeps_rules s number)) 8 ∷ []
 -- reading the header that s starts with, of the file with the number
 unfoldable pub read_header : List ℕ → ℕ → Answer Header
 read_header s number = first_of (header_checks s number) (header_of s)
-
--- the paper's number and values for each case of `read_header`'s answer
-abbrev pub header_answer : HeaderRead → Answer Header
-header_answer (Accepted h) = accepted h
-header_answer (Refused n) = refused n

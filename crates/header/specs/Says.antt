@@ -1,11 +1,10 @@
 -- What an accepted file header says (01, "File header"; demand 2): each value is the number of its item's data.
 -- Assumes nothing.
-use Rattle.std.specs.Prelude.{◌≡◌, cond, List, ℕ, ◌≤◌, eqb, length}
+use Rattle.std.specs.Prelude.{◌≡◌, cond, List, ℕ, ◌≤◌, eqb, length, Some, None}
 use Rattle.octets.specs.Numbers.{number_at}
-use Rattle.header.specs.declared.Upload.TheVariants.{Time, Absent}
 use Rattle.header.specs.declared.Header.{Header}
 use Rattle.header.specs.Items.{items, count_of}
-use Rattle.header.specs.Header.{header_length, name_bytes, extension_bytes}
+use Rattle.header.specs.Header.{header_length}
 use Rattle.header.specs.Rules.{Rules}
 use Rattle.header.specs.Data.{data_of}
 
@@ -26,8 +25,8 @@ pub record HeaderSays (s : List ℕ) (number : ℕ) (h : Header) : Type 0 where
   pub bodysum : h.bodysum ≡ number_at 2 (data_of 0x09 s) 0
   pub headersum : h.headersum ≡ number_at 2 (data_of 0x0A s) 0
   pub body : h.body ≡ number_at 2 (data_of 0x0B s) 0
-  pub name : name_bytes h.name ≡ data_of 0x02 s
-  pub extension : extension_bytes h.extension ≡ data_of 0x03 s
-  pub upload : h.upload ≡ cond (eqb (count_of (items s) 0x12) 0) Absent (Time (number_at 4 (data_of 0x12 s) 0))
+  pub name : h.name ≡ data_of 0x02 s
+  pub extension : h.extension ≡ data_of 0x03 s
+  pub upload : h.upload ≡ cond (eqb (count_of (items s) 0x12) 0) None (Some (number_at 4 (data_of 0x12 s) 0))
   pub behind : h.size ≤ h.body
   pub before : h.body ≤ h.length

@@ -12,14 +12,15 @@ mod notes;
 mod values;
 
 ghost use Rattle.std.specs.Prelude.{◌≡◌};
+ghost use Rattle.reason.specs.Answer.{answer_of};
 ghost use Rattle.header.specs.Items.{decision_of, allows_size, step_at};
-ghost use Rattle.header.specs.Header.{header_answer, read_header};
+ghost use Rattle.header.specs.Header.{read_header};
 ghost use Rattle.header.specs.Data.{data_of};
 
-use notes::{PLACES, Walked};
+use reason::Reason;
 
 // What an item tells of its file, by its id.
-#[derive(Clone, Copy)]
+#[derive(Clone, Copy, Debug, PartialEq, Eq)]
 pub enum Meaning {
     End,
     FileNumber,
@@ -38,21 +39,22 @@ pub enum Meaning {
 }
 
 // How many bytes of data an item has, by its id.
-#[derive(Clone, Copy)]
+// Kept beside `Option`: `None` would have to be read as "any length".
+#[derive(Clone, Copy, Debug, PartialEq, Eq)]
 pub enum Size {
     Exactly(usize),
     Any,
 }
 
 // The decision over an item's id: its length and its meaning.
-#[derive(Clone, Copy)]
+#[derive(Clone, Copy, Debug, PartialEq, Eq)]
 pub struct Decision {
     pub meaning: Meaning,
     pub size: Size,
 }
 
 // An item of a header: its id and meaning, and where its data starts and how many bytes they are.
-#[derive(Clone, Copy)]
+#[derive(Clone, Copy, Debug, PartialEq, Eq)]
 pub struct Item {
     pub id: u16,
     pub meaning: Meaning,
@@ -61,14 +63,15 @@ pub struct Item {
 }
 
 // The place in a header where an item starts.
-#[derive(Clone, Copy)]
+#[derive(Clone, Copy, Debug, PartialEq, Eq)]
 pub struct Cursor {
     pub at: usize,
 }
 
 // What a step finds: an item, and the cursor behind it; the end item, and the cursor behind it; or
 // no whole item of a length that its id allows.
-#[derive(Clone, Copy)]
+// Kept beside `Option`: it has three cases.
+#[derive(Clone, Copy, Debug, PartialEq, Eq)]
 pub enum Step {
     Found(Item, Cursor),
     Ended(Cursor),
@@ -76,49 +79,22 @@ pub enum Step {
 }
 
 // The id and the length of a mandatory item.
-#[derive(Clone, Copy)]
+#[derive(Clone, Copy, Debug, PartialEq, Eq)]
 pub struct Pair {
     pub id: u16,
     pub size: usize,
-}
-
-// Item 02, the eight bytes of the file's name in their order.
-#[derive(Clone, Copy)]
-pub struct Name {
-    pub c0: u8,
-    pub c1: u8,
-    pub c2: u8,
-    pub c3: u8,
-    pub c4: u8,
-    pub c5: u8,
-    pub c6: u8,
-    pub c7: u8,
-}
-
-// Item 03, the three bytes of the name's extension in their order.
-#[derive(Clone, Copy)]
-pub struct Extension {
-    pub c0: u8,
-    pub c1: u8,
-    pub c2: u8,
-}
-
-// Item 12, the upload time, where the header has it.
-#[derive(Clone, Copy)]
-pub enum Upload {
-    Time(u32),
-    Absent,
 }
 
 // The values of a header's items, in their order 01 to 0B and then 12: the file's number, name and
 // extension, its length with its header, the times of its creation and last modification, whether an upset
 // was detected, its type, the sums of body and header, where the body starts, and the upload time; and
 // how many bytes the header itself has.
-#[derive(Clone, Copy)]
+// Kept: the upset and the type are bytes, since every byte is one that a header can have there.
+#[derive(Clone, Copy, Debug, PartialEq, Eq)]
 pub struct Header {
     pub number: u32,
-    pub name: Name,
-    pub extension: Extension,
+    pub name: [u8; 8],
+    pub extension: [u8; 3],
     pub length: u32,
     pub created: u32,
     pub modified: u32,
@@ -127,19 +103,13 @@ pub struct Header {
     pub bodysum: u16,
     pub headersum: u16,
     pub body: u16,
-    pub upload: Upload,
+    pub upload: Option<u32>,
     pub size: usize,
-}
-
-// What reading a header finds: its values, or the number of the reason.
-#[derive(Clone, Copy)]
-pub enum HeaderRead {
-    Accepted(Header),
-    Refused(u8),
 }
 
 // The length and the meaning of an item with the id: items 01 to 0B and 12 have one length each, the
 // end item has no data, and other items have any length.
+#[tactic(auto, unfolding(crate::specs::Items::decision_of, crate::specs::Items::known_items, crate::specs::Items::mandatory_items))]
 pub fn decide(id: u16) -> Decision
     ensures { result ≡ decision_of id }
 {
@@ -166,7 +136,7 @@ pub fn decide(id: u16) -> Decision
 
 impl Cursor {
     // The cursor at the first item, behind AA 55.
-    pub fn first() -> Cursor
+    pub fn first() -> Self
         ensures { result.at ≡ 2 }
     {
         Cursor { at: 2 }
@@ -174,23 +144,22 @@ impl Cursor {
 
     // What stands at the cursor: an item and the cursor behind it, the end item and the cursor
     // behind it, or `Broken` where the bytes run out or the id does not allow the length.
+    #[tactic(auto, unfolding(crate::specs::Items::step_at, crate::specs::Items::step_with))]
     pub fn step(self, s: &[u8]) -> Step
         ensures { result ≡ step_at s.now self.at }
     {
         let at = self.at;
-        if s.len() < at {
+        if s.len() < at || s.len() - at < 3 {
             return Step::Broken;
         }
         let start = at + 3;
-        if s.len() < start {
-            return Step::Broken;
-        }
-        let id = octets::number2(s, at);
-        let size = octets::byte(s, at + 2) as usize;
-        let decision = decide(id);
-        let allowed = decision.size;
-        let meaning = decision.meaning;
-        if !allows(allowed, size) {
+        let id = octets::number::<2>(s, at) as u16;
+        let size = usize::from(octets::byte(s, at + 2));
+        let Decision {
+            meaning,
+            size: allowed,
+        } = decide(id);
+        if !allowed.allows(size) {
             return Step::Broken;
         }
         if id == 0 {
@@ -219,53 +188,34 @@ pub fn item_bytes(s: &[u8], id: u16) -> &[u8]
     let mut start = 0;
     let mut size = 0;
     let mut cursor = Cursor::first();
-    loop {
-        match cursor.step(s) {
-            Step::Found(item, next) => {
-                if item.id == id {
-                    start = item.start;
-                    size = item.size;
-                }
-                cursor = next;
-            }
-            Step::Ended(_) => {
-                let end = start + size;
-                return &s[start..end];
-            }
-            Step::Broken => {
-                let end = start + size;
-                return &s[start..end];
-            }
+    while let Step::Found(item, next) = cursor.step(s) {
+        if item.id == id {
+            start = item.start;
+            size = item.size;
         }
+        cursor = next;
     }
+    &s[start..start + size]
 }
 
 // The values of the header that s starts with, of the file with the number; refuses 8 where it breaks
 // a rule. What follows the header in s is not looked at.
-pub fn read_header(s: &[u8], number: u32) -> HeaderRead
-    ensures { header_answer result ≡ read_header s.now number }
+pub fn read_header(s: &[u8], number: u32) -> Result<Header, Reason>
+    ensures { answer_of result ≡ read_header s.now number }
 {
     if !values::begins(s) {
-        return HeaderRead::Refused(8);
+        return Err(Reason::Header);
     }
-    let mut counts = [0; PLACES];
-    let mut sizes = [0; PLACES];
-    let mut starts = [0; PLACES];
-    let Walked::Ended(end) = notes::walk(s, &mut counts, &mut sizes, &mut starts) else {
-        return HeaderRead::Refused(8);
-    };
-    if !notes::all_once(&counts, &sizes) {
-        return HeaderRead::Refused(8);
+    let notes = notes::walk(s).ok_or(Reason::Header)?;
+    if !notes.all_once() || 1 < notes.of(Meaning::UploadTime).count {
+        return Err(Reason::Header);
     }
-    if 1 < notes::noted(&counts, Meaning::UploadTime) {
-        return HeaderRead::Refused(8);
-    }
-    let header = values::values(s, end, &counts, &starts);
-    let sum = values::sum_but(&s[..end], notes::noted(&starts, Meaning::HeaderSum));
+    let header = values::values(s, &notes);
+    let sum = values::sum_but(&s[..notes.end], notes.of(Meaning::HeaderSum).start);
     if !values::agree(header, sum, number) {
-        return HeaderRead::Refused(8);
+        return Err(Reason::Header);
     }
-    HeaderRead::Accepted(header)
+    Ok(header)
 }
 
 // A decision for an item that has one length.
@@ -278,12 +228,14 @@ fn exactly(size: usize, meaning: Meaning) -> Decision
     }
 }
 
-// Whether an item may have as many bytes of data.
-fn allows(allowed: Size, size: usize) -> bool
-    ensures { result ≡ allows_size allowed size }
-{
-    match allowed {
-        Size::Exactly(n) => size == n,
-        Size::Any => true,
+impl Size {
+    // Whether an item may have as many bytes of data.
+    fn allows(self, size: usize) -> bool
+        ensures { result ≡ allows_size self size }
+    {
+        match self {
+            Size::Exactly(n) => size == n,
+            Size::Any => true,
+        }
     }
 }

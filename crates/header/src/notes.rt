@@ -1,13 +1,14 @@
 // What one walk over a header's items notes of each meaning: how many items have it, and the length and
 // the start of the last one's data.
-ghost use Rattle.std.specs.Prelude.{◌≡◌, ◌+◌, ◌<◌};
-ghost use Rattle.header.specs.Header.{mandatory, every_pair, once};
-ghost use Rattle.header.specs.Notes.{places, place_of, none, note_of, by_id, with_note, Walks};
+ghost use Rattle.std.specs.Prelude.{◌≡◌, ◌<◌};
+ghost use Rattle.std.specs.List.{list_all};
+ghost use Rattle.header.specs.Header.{mandatory, once};
+ghost use Rattle.header.specs.Notes.{places, place_of, note_of, counts, sizes, Walks};
 
-use super::{Cursor, Item, Meaning, Pair, Step};
+use super::{Cursor, Meaning, Pair, Step};
 
-// How many places the notes have, one for each meaning.
-pub(crate) const PLACES: usize = 14;
+// How many notes there are, one for each meaning.
+const PLACES: usize = 14;
 
 // The mandatory items: id and length.
 const MANDATORY: [Pair; 11] = [
@@ -24,104 +25,86 @@ const MANDATORY: [Pair; 11] = [
     Pair { id: 0x0B, size: 2 },
 ];
 
-// What a walk over all items comes to: the end item, and the place behind it; or items that break off.
-#[derive(Clone, Copy)]
-pub(crate) enum Walked {
-    Ended(usize),
-    Broken,
+// What is noted of a meaning: how many items have it, and how many bytes the last one's data are and where
+// they start.
+#[derive(Clone, Copy, Debug, PartialEq, Eq)]
+pub(crate) struct Note {
+    pub(crate) count: usize,
+    pub(crate) size: usize,
+    pub(crate) start: usize,
 }
 
-// Walks over all items of the header, notes each, and answers where they end.
-pub(crate) fn walk(
-    s: &[u8],
-    counts: &mut [usize; PLACES],
-    sizes: &mut [usize; PLACES],
-    starts: &mut [usize; PLACES],
-) -> Walked
-    requires { (counts.old ≡ none) × (sizes.old ≡ none) × (starts.old ≡ none) }
-    ensures { Walks result s.now counts.new sizes.new starts.new }
+// What is noted of all items: a note for each meaning, and where the items end, behind the end item.
+#[derive(Clone, Copy, Debug, PartialEq, Eq)]
+pub(crate) struct Notes {
+    notes: [Note; PLACES],
+    pub(crate) end: usize,
+}
+
+// Walks over all items of the header and notes each; `None` where they break off.
+pub(crate) fn walk(s: &[u8]) -> Option<Notes>
+    ensures { Walks result s.now }
 {
+    let mut notes = [Note {
+        count: 0,
+        size: 0,
+        start: 0,
+    }; PLACES];
     let mut cursor = Cursor::first();
     loop {
         match cursor.step(s) {
             Step::Found(item, next) => {
-                note(counts, sizes, starts, item);
+                let at = item.meaning.place();
+                notes[at] = Note {
+                    count: notes[at].count + 1,
+                    size: item.size,
+                    start: item.start,
+                };
                 cursor = next;
             }
-            Step::Ended(end) => return Walked::Ended(end.at),
-            Step::Broken => return Walked::Broken,
+            Step::Ended(behind) => {
+                return Some(Notes {
+                    notes,
+                    end: behind.at,
+                });
+            }
+            Step::Broken => return None,
         }
     }
 }
 
-// Notes one item more.
-fn note(
-    counts: &mut [usize; PLACES],
-    sizes: &mut [usize; PLACES],
-    starts: &mut [usize; PLACES],
-    item: Item,
-)
-    requires { note_of counts.old item.meaning < item.start }
-    ensures counts_after { counts.new ≡ with_note counts.old item.meaning (note_of counts.old item.meaning + 1) }
-    ensures sizes_after { sizes.new ≡ with_note sizes.old item.meaning item.size }
-    ensures starts_after { starts.new ≡ with_note starts.old item.meaning item.start }
-{
-    let meaning = item.meaning;
-    let at = place(meaning);
-    counts[at] += 1;
-    sizes[at] = item.size;
-    starts[at] = item.start;
-}
-
-// The place of a meaning in the notes.
-fn place(meaning: Meaning) -> usize
-    ensures { (result ≡ place_of meaning) × (result < places) }
-{
-    match meaning {
-        Meaning::End => 0,
-        Meaning::FileNumber => 1,
-        Meaning::FileName => 2,
-        Meaning::FileExtension => 3,
-        Meaning::FileLength => 4,
-        Meaning::CreationTime => 5,
-        Meaning::ModificationTime => 6,
-        Meaning::UpsetFlag => 7,
-        Meaning::FileType => 8,
-        Meaning::BodySum => 9,
-        Meaning::HeaderSum => 10,
-        Meaning::BodyOffset => 11,
-        Meaning::UploadTime => 12,
-        Meaning::Other => 13,
+impl Meaning {
+    // The place of a meaning in the notes.
+    fn place(self) -> usize
+        ensures value { result ≡ place_of self }
+        ensures upper_bound { result < places }
+    {
+        self as usize
     }
 }
 
-// What is noted of a meaning.
-pub(crate) fn noted(notes: &[usize; PLACES], meaning: Meaning) -> usize
-    ensures { result ≡ note_of notes.now meaning }
-{
-    let at = place(meaning);
-    notes[at]
-}
-
-// Whether each mandatory item was met exactly once, with its length.
-pub(crate) fn all_once(counts: &[usize; PLACES], sizes: &[usize; PLACES]) -> bool
-    ensures { result ≡ every_pair (once (by_id counts.now) (by_id sizes.now)) mandatory }
-{
-    let table = MANDATORY;
-    for k in 0..11 {
-        let pair = table[k];
-        if !once(counts, sizes, pair) {
-            return false;
-        }
+impl Notes {
+    // What is noted of a meaning.
+    pub(crate) fn of(&self, meaning: Meaning) -> Note
+        ensures { result ≡ note_of self.now.notes meaning }
+    {
+        self.notes[meaning.place()]
     }
-    true
-}
 
-// Whether the pair's item was met exactly once, with its length.
-fn once(counts: &[usize; PLACES], sizes: &[usize; PLACES], pair: Pair) -> bool
-    ensures { result ≡ once (by_id counts.now) (by_id sizes.now) pair }
-{
-    let decision = super::decide(pair.id);
-    let meaning = decision.meaning;
-    (noted(counts, meaning) == 1) & (noted(sizes, meaning) == pair.size)
+    // Whether each mandatory item was met exactly once, with its length.
+    #[tactic(auto, unfolding(crate::specs::Items::mandatory_items))]
+    pub(crate) fn all_once(&self) -> bool
+        ensures { result ≡ list_all (once (counts self.now.notes) (sizes self.now.notes)) mandatory }
+    {
+        MANDATORY.iter().all(|pair| self.once(*pair))
+    }
+
+    // Whether the pair's item was met exactly once, with its length.
+    fn once(&self, pair: Pair) -> bool
+        ensures { result ≡ once (counts self.now.notes) (sizes self.now.notes) pair }
+    {
+        let decision = super::decide(pair.id);
+        let note = self.of(decision.meaning);
+        note.count == 1 && note.size == pair.size
+    }
 }

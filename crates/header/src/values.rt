@@ -1,159 +1,73 @@
 // What a header's bytes say once its items are noted: the values of its items, the sum of its bytes,
 // and whether they agree.
-ghost use Rattle.std.specs.Prelude.{◌≡◌, [], ◌∷◌, ◌+◌, ◌%◌, ◌≤◌, ◌<◌, length};
-ghost use Rattle.octets.specs.Numbers.{byte_at, number_at};
+ghost use Rattle.std.specs.Prelude.{◌≡◌, [], ◌∷◌, ◌+◌, ◌%◌, ◌≤◌, length, sum};
 ghost use Rattle.octets.specs.Runs.{put_in};
-ghost use Rattle.header.specs.Header.{begins_right, sum_of, values_agree, name_at, extension_at, upload_by, values_by};
-ghost use Rattle.header.specs.Notes.{note_of, by_id};
-ghost use Rattle.header.specs.declared.Meaning.TheVariants.{FileName, FileExtension};
+ghost use Rattle.header.specs.Header.{begins_right, values_agree, upload_by, values_by};
+ghost use Rattle.header.specs.Notes.{counts, starts};
 
-use super::notes::{PLACES, noted};
-use super::{Extension, Header, Meaning, Name, Upload};
+use super::notes::{Note, Notes};
+use super::{Header, Meaning};
 
 // Whether s begins with AA 55.
 pub(crate) fn begins(s: &[u8]) -> bool
     ensures { result ≡ begins_right s.now }
 {
-    (octets::byte(s, 0) == 0xAA) & (octets::byte(s, 1) == 0x55)
+    octets::byte(s, 0) == 0xAA && octets::byte(s, 1) == 0x55
 }
 
 // The values of the items whose data start at the noted places.
-pub(crate) fn values(
-    s: &[u8],
-    end: usize,
-    counts: &[usize; PLACES],
-    starts: &[usize; PLACES],
-) -> Header
-    requires { (note_of starts.now FileName ≤ length s.now) × (note_of starts.now FileExtension ≤ length s.now) }
-    ensures { result ≡ values_by (by_id counts.now) (by_id starts.now) end s.now }
+#[tactic(auto, unfolding(crate::specs::Items::decision_of, crate::specs::Items::known_items, crate::specs::Items::mandatory_items))]
+pub(crate) fn values(s: &[u8], notes: &Notes) -> Header
+    ensures { result ≡ values_by (counts notes.now.notes) (starts notes.now.notes) notes.now.end s.now }
 {
-    let number = four(s, starts, Meaning::FileNumber);
-    let name = name_at(s, noted(starts, Meaning::FileName));
-    let extension = extension_at(s, noted(starts, Meaning::FileExtension));
-    let length = four(s, starts, Meaning::FileLength);
-    let created = four(s, starts, Meaning::CreationTime);
-    let modified = four(s, starts, Meaning::ModificationTime);
-    let upset = one(s, starts, Meaning::UpsetFlag);
-    let kind = one(s, starts, Meaning::FileType);
-    let bodysum = two(s, starts, Meaning::BodySum);
-    let headersum = two(s, starts, Meaning::HeaderSum);
-    let body = two(s, starts, Meaning::BodyOffset);
-    let uploads = noted(counts, Meaning::UploadTime);
-    let upload = upload_at(s, uploads, noted(starts, Meaning::UploadTime));
     Header {
-        number,
-        name,
-        extension,
-        length,
-        created,
-        modified,
-        upset,
-        kind,
-        bodysum,
-        headersum,
-        body,
-        upload,
-        size: end,
+        number: octets::number::<4>(s, notes.of(Meaning::FileNumber).start) as u32,
+        name: octets::array(s, notes.of(Meaning::FileName).start),
+        extension: octets::array(s, notes.of(Meaning::FileExtension).start),
+        length: octets::number::<4>(s, notes.of(Meaning::FileLength).start) as u32,
+        created: octets::number::<4>(s, notes.of(Meaning::CreationTime).start) as u32,
+        modified: octets::number::<4>(s, notes.of(Meaning::ModificationTime).start) as u32,
+        upset: octets::byte(s, notes.of(Meaning::UpsetFlag).start),
+        kind: octets::byte(s, notes.of(Meaning::FileType).start),
+        bodysum: octets::number::<2>(s, notes.of(Meaning::BodySum).start) as u16,
+        headersum: octets::number::<2>(s, notes.of(Meaning::HeaderSum).start) as u16,
+        body: octets::number::<2>(s, notes.of(Meaning::BodyOffset).start) as u16,
+        upload: upload(s, notes.of(Meaning::UploadTime)),
+        size: notes.end,
     }
 }
 
 // The sum of all bytes of s modulo 65,536, with the two bytes from a place on taken as 0.
-pub(crate) fn sum_but(s: &[u8], at: usize) -> u32
+pub(crate) fn sum_but(s: &[u8], at: usize) -> u16
     requires { at + 2 ≤ length s.now }
-    ensures { result ≡ sum_of (put_in s.now at (0 ∷ 0 ∷ [])) % 65536 }
+    ensures { result ≡ sum (put_in s.now at (0 ∷ 0 ∷ [])) % 65536 }
 {
     let behind = at + 2;
-    (sum(&s[..at]) + sum(&s[behind..])) % 65536
+    sum_all(&s[..at]).wrapping_add(sum_all(&s[behind..]))
 }
 
 // Whether item 0A is the sum, item 01 the number, and item 0B at least the header's length and at most
 // item 04.
-pub(crate) fn agree(h: Header, sum: u32, number: u32) -> bool
+pub(crate) fn agree(h: Header, sum: u16, number: u32) -> bool
     ensures { result ≡ values_agree h sum number }
 {
-    ((h.headersum as u32) == sum)
-        & (h.number == number)
-        & (h.size <= (h.body as usize))
-        & ((h.body as u32) <= h.length)
+    h.headersum == sum
+        && h.number == number
+        && h.size <= usize::from(h.body)
+        && u32::from(h.body) <= h.length
+}
+
+// Item 12's time where it is noted.
+fn upload(s: &[u8], note: Note) -> Option<u32>
+    ensures { result ≡ upload_by note.count note.start s.now }
+{
+    (note.count > 0).then(|| octets::number::<4>(s, note.start) as u32)
 }
 
 // The sum of all bytes of s modulo 65,536.
-fn sum(s: &[u8]) -> u32
-    ensures { result ≡ sum_of s.now % 65536 }
+fn sum_all(s: &[u8]) -> u16
+    ensures { result ≡ sum s.now % 65536 }
 {
-    let mut sum: u32 = 0;
-    let mut i = 0;
-    while i < s.len() {
-        sum = (sum + wide(s[i])) % 65536;
-        i += 1;
-    }
-    sum
-}
-
-// A byte as a number of 32 bits, still below 256.
-fn wide(b: u8) -> u32
-    ensures { (result ≡ b) × (result < 256) }
-{
-    b as u32
-}
-
-// The number of four bytes of the item with the meaning.
-fn four(s: &[u8], starts: &[usize; PLACES], meaning: Meaning) -> u32
-    ensures { result ≡ number_at 4 s.now (note_of starts.now meaning) }
-{
-    octets::number4(s, noted(starts, meaning))
-}
-
-// Its number of two bytes.
-fn two(s: &[u8], starts: &[usize; PLACES], meaning: Meaning) -> u16
-    ensures { result ≡ number_at 2 s.now (note_of starts.now meaning) }
-{
-    octets::number2(s, noted(starts, meaning))
-}
-
-// Its one byte.
-fn one(s: &[u8], starts: &[usize; PLACES], meaning: Meaning) -> u8
-    ensures { result ≡ byte_at s.now (note_of starts.now meaning) }
-{
-    octets::byte(s, noted(starts, meaning))
-}
-
-// The eight bytes of s from a place on, as a name.
-fn name_at(s: &[u8], at: usize) -> Name
-    requires { at ≤ length s.now }
-    ensures { result ≡ name_at s.now at }
-{
-    Name {
-        c0: octets::byte(s, at),
-        c1: octets::byte(s, at + 1),
-        c2: octets::byte(s, at + 2),
-        c3: octets::byte(s, at + 3),
-        c4: octets::byte(s, at + 4),
-        c5: octets::byte(s, at + 5),
-        c6: octets::byte(s, at + 6),
-        c7: octets::byte(s, at + 7),
-    }
-}
-
-// The three bytes of s from a place on, as an extension.
-fn extension_at(s: &[u8], at: usize) -> Extension
-    requires { at ≤ length s.now }
-    ensures { result ≡ extension_at s.now at }
-{
-    Extension {
-        c0: octets::byte(s, at),
-        c1: octets::byte(s, at + 1),
-        c2: octets::byte(s, at + 2),
-    }
-}
-
-// Item 12, of which `count` were met and the last one's data start at a place.
-fn upload_at(s: &[u8], count: usize, at: usize) -> Upload
-    ensures { result ≡ upload_by count at s.now }
-{
-    if count == 0 {
-        Upload::Absent
-    } else {
-        Upload::Time(octets::number4(s, at))
-    }
+    s.iter()
+        .fold(0, |sum: u16, b| sum.wrapping_add(u16::from(*b)))
 }

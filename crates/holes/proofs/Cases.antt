@@ -4,13 +4,14 @@ use mathlib.Core.Path.{◌≡◌, refl}
 use mathlib.Core.List.{[], ◌∷◌}
 use Prim.Native.Nat.{ℕ}
 use lib.ListN.{replicate}
-use Rattle.reason.specs.Answer.{Answer, accepted, refused}
+use Rattle.std.specs.Prelude.{Ok, Err}
+use Rattle.reason.specs.declared.Reason.TheVariants.{NoHole}
+use Rattle.reason.specs.Answer.{Answer, accepted, refused, answer_of}
 use Rattle.reason.specs.Order.{first_of}
 use Rattle.positions.specs.Spans.{first}
 use Rattle.positions.specs.Map.{bit, held}
 use Rattle.holes.specs.declared.Hole.{Hole}
-use Rattle.holes.specs.declared.Listed.TheVariants as listed
-use Rattle.holes.specs.Listing.{listing, listed_answer}
+use Rattle.holes.specs.Listing.{listing}
 use Rattle.holes.specs.EveryHole.{listed_from}
 
 abbrev hole : ℕ → ℕ → Answer Hole
@@ -38,8 +39,8 @@ pub record Cases : Type 0 where
   pub list_longer_map : listing 20 (0x0F ∷ 0x03 ∷ 0xF0 ∷ 0xA5 ∷ []) 10 ≡ hole 10 10
   pub list_short : listing 20 (0x0F ∷ 0x03 ∷ []) 20 ≡ refused 12
   -- the paper's number and values of each answer
-  pub listed_accepted : listed_answer (listed.Accepted (record { start = 4; length = 6 })) ≡ hole 4 6
-  pub listed_refused : listed_answer (listed.Refused 15) ≡ refused 15
+  pub listed_accepted : answer_of (Ok (record { start = 4; length = 6 })) ≡ hole 4 6
+  pub listed_refused : answer_of {A = Hole} (Err NoHole) ≡ refused 15
 
 pub cases : Cases
 unfolding first_of first bit held listing

@@ -20,7 +20,7 @@ use Rattle.reception.specs.Reception.{wrong_length}
 use Rattle.holes.specs.Holes.{held_before, starts_hole, hole_start, hole_end, hole_from, IsHole}
 use Rattle.holes.specs.Listing.{listing_checks, listing}
 use Rattle.holes.specs.EveryHole.{end_of, go_on, listed_from, last_end, Ascending, AllHoles, InHole}
-use Rattle.holes.proofs.HoleSteps.{start_here}
+use Rattle.holes.proofs.HoleSteps.{start_is_unheld}
 use Rattle.holes.proofs.GivenReasons.{lists, lists_15}
 
 -- ---- lists that go on
@@ -264,4 +264,4 @@ module _ (l : ℕ) (map : List ℕ) where
   pub none_left_only_if : listing l map 0 ≡ refused 15 → (p : ℕ) → p < l → held map p ≡ true
   none_left_only_if e p low =
       not-false (held map p)
-      (passed_over (λ q. not (held map q)) 0 (l - 0) p (omega arith) (omega (arith, told_15 0 e, start_here map 0 l refl)))
+      (passed_over (λ q. not (held map q)) 0 (l - 0) p (omega arith) (omega (arith, told_15 0 e, start_is_unheld map 0 (l - 0) (λ _. refl))))

@@ -1,13 +1,13 @@
 -- How the first hole is found: past what is unheld before the place, to the first unheld position.
 -- Assumes nothing.
 use mathlib.Core.Path.{◌≡◌, refl, sym, ap, ◌∙◌}
-use mathlib.Core.Bool.{Bool, true, false, not, ◌&&◌, ◌||◌, or-false, true≢false}
+use mathlib.Core.Bool.{Bool, true, false, not, ◌&&◌, true≢false}
 use mathlib.Core.Logic.{⊎_elim}
 use mathlib.Core.List.{List}
 use Prim.Native.Nat.{ℕ, zero, suc, ◌+◌, ◌-◌, ◌≤◌, ◌<◌}
 use native.Mathlib.Omega.{arith}
 use borrow.Author.Tests.{not-true, not-false}
-use Rattle.reason.proofs.Bools.{le_or_lt}
+use Rattle.reason.proofs.Bools.{and_left, le_or_lt}
 use Rattle.positions.specs.Spans.{first}
 use Rattle.positions.specs.Map.{held}
 use Rattle.positions.proofs.SpanLaws.{first_from, first_by, passed_over, found, first_is, first_skip, first_none}
@@ -63,19 +63,20 @@ module _ (m : List ℕ) where
           (λ k. before_is r (omega arith) ∙ passed_over (held m) p (n - p) (r - 1) (omega arith) (omega arith))
           (le_or_lt r p)
 
-  -- the ways that a search for a start goes: where the position before the place is held, where one of the two is, and where none is
-  pub start_here : (p n : ℕ) → held_before m p ≡ true → first (λ q. not (held m q)) p (n - p) ≡ hole_start n m p
-  start_here p n before = sym (start_is_unheld p (n - p) (λ _. before))
+  -- the two ways that a search for a start goes: where no hole goes on at the place, and past the one that does
+  pub start_at : (p n : ℕ) → (not (held_before m p) && not (held m p)) ≡ false → (r : ℕ) → r ≡ first (λ q. not (held m q)) p (n - p) → r ≡ hole_start n m p
+  start_at p n none r e = e ∙ sym (start_is_unheld p (n - p) (λ free. by (held_before m p) (held m p) none free))
+    where
+      by : (a b : Bool) → (not a && not b) ≡ false → b ≡ false → a ≡ true
+      by true b none free = refl
+      by false true none free = absurd (true≢false free)
+      by false false none free = absurd (true≢false none)
 
-  pub start_at : (p n : ℕ) → (held_before m p || held m p) ≡ true → (r : ℕ) → r ≡ first (λ q. not (held m q)) p (n - p) → r ≡ hole_start n m p
-  start_at p n one r e =
-      e ∙ sym (start_is_unheld p (n - p) (λ free. sym (ap (λ (b : Bool). held_before m p || b) free ∙ or-false (held_before m p)) ∙ one))
-
-  pub start_after : (p n past : ℕ) → held_before m p ≡ false → past ≡ first (held m) p (n - p)
+  pub start_after : (p n past : ℕ) → (not (held_before m p) && not (held m p)) ≡ true → past ≡ first (held m) p (n - p)
       → (r : ℕ) → r ≡ first (λ q. not (held m q)) past (n - past) → r ≡ hole_start n m p
-  start_after p n past before is r e =
+  start_after p n past goes is r e =
       e
-      ∙ sym (start_past p n before
+      ∙ sym (start_past p n (not-true (held_before m p) (and_left (not (held_before m p)) (not (held m p)) goes))
       ∙ ap (hole_start n m) (sym is)
       ∙ ⊎_elim
       (λ g. first_none (starts_hole m) past n g ∙ sym (first_none (λ q. not (held m q)) past n g))

@@ -5,19 +5,24 @@ use mathlib.Core.Bool.{Bool}
 use mathlib.Core.List.{List}
 use Prim.Native.Nat.{ℕ}
 use Rattle.octets.specs.Numbers.{byte_at, number_at, bytes_of}
+use Rattle.octets.specs.Values.{values_from}
 use Rattle.octets.specs.Runs.{Put}
 
 -- `byte`
 pub only_one_byte : (s : List ℕ) (at r q : ℕ) → r ≡ byte_at s at → q ≡ byte_at s at → r ≡ q
 only_one_byte s at r q d e = d ∙ sym e
 
--- `number2`, `number3` and `number4`: n is the width
+-- `number`: n is the width, of eight at most
 pub only_one_number : (n : ℕ) (s : List ℕ) (at r q : ℕ) → r ≡ number_at n s at → q ≡ number_at n s at → r ≡ q
 only_one_number n s at r q d e = d ∙ sym e
 
--- `bytes2`, `bytes3` and `bytes4`: n is the width
+-- `bytes`: n is the width
 pub only_one_bytes : (n v : ℕ) (r q : List ℕ) → r ≡ bytes_of n v → q ≡ bytes_of n v → r ≡ q
 only_one_bytes n v r q d e = d ∙ sym e
+
+-- `array`: n is how many
+pub only_one_array : (n : ℕ) (s : List ℕ) (at : ℕ) (r q : List ℕ) → r ≡ values_from (byte_at s) at n → q ≡ values_from (byte_at s) at n → r ≡ q
+only_one_array n s at r q d e = d ∙ sym e
 
 -- `put`: its answer and what it leaves
 pub only_one_put : (out : List ℕ) (at : ℕ) (run : List ℕ) (r q : Bool) (left also : List ℕ) → Put out at run r left → Put out at run q also

@@ -77,6 +77,18 @@ module _ (out : List ℕ) (at : ℕ) (run : List ℕ) (h : at + length run ≤ l
       ∙ get_or-append-add front (drop (at + length run) out) k 0
       ∙ get_or-drop (at + length run) out k 0
 
+-- what meets the promise of `put` where there is room: the run, copied over the part of the list that it has
+pub put_copied : (out : List ℕ) (at k : ℕ) (run part : List ℕ) → at + length run ≤ length out → k ≡ length run → part ≡ run
+    → Put out at run true (take at out ++ (part ++ drop k (drop at out)))
+unfolding put_in
+put_copied out at k run part h e d =
+    let room : has_room out at run ≡ true = le-leb (at + length run) (length out) h in
+    let bytes : take at out ++ (part ++ drop k (drop at out)) ≡ put_in out at run =
+    ap₂ (λ (xs : List ℕ) (n : ℕ). take at out ++ (xs ++ drop n (drop at out))) d e
+    ∙ ap (λ (xs : List ℕ). take at out ++ (run ++ xs)) (drop-drop (length run) at out)
+    ∙ sym (append_assoc (take at out) run (drop (at + length run) out))
+    in record { answer = sym room; bytes = bytes ∙ sym (ap (λ (b : Bool). cond b (put_in out at run) out) room) }
+
 -- two runs, one after the other, are one run
 pub put_put : (out : List ℕ) (at : ℕ) (a b : List ℕ) → at + length a + length b ≤ length out
     → put_in (put_in out at a) (at + length a) b ≡ put_in out at (a ++ b)

@@ -1,7 +1,7 @@
 -- What stands at each place of the list that a rule makes: a rule that is tested over a whole list holds at each entry.
 -- Assumes nothing.
 use mathlib.Core.Path.{◌≡◌, refl, sym, ap, ap₂, ◌∙◌}
-use mathlib.Core.List.{List, ◌∷◌, ◌++◌}
+use mathlib.Core.List.{List, [], ◌∷◌, ◌++◌}
 use Prim.Native.Nat.{ℕ, zero, suc, ◌+◌, ◌≤◌, ◌<◌}
 use native.Mathlib.Nat.{add-zero, zero-add, add-suc, suc-add, le_of_suc-le-suc, not-suc-le-zero}
 use native.Mathlib.Omega.{arith}
@@ -41,3 +41,7 @@ values_alike f g i (suc n) e = ap₂ ◌∷◌ (e i (omega arith) (omega arith))
 -- .. and so do two that agree at each place up to the last
 pub values_same : {A : Type 0} (f g : ℕ → A) (i n : ℕ) → ((k : ℕ) → k < i + n → f k ≡ g k) → values_from f i n ≡ values_from g i n
 values_same f g i n e = values_alike f g i n (λ k l h. e k h)
+
+-- one value more
+pub values_more : {A : Type 0} (f : ℕ → A) (i n : ℕ) → values_from f i n ++ f (i + n) ∷ [] ≡ values_from f i (n + 1)
+values_more f i n = values_join f i n 1

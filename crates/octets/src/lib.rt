@@ -2,87 +2,64 @@
 // Numbers of several bytes are least significant byte first (01, "What the station does").
 //
 // Every function answers for every slice and every place: a byte beyond the end reads as 0, and a
-// run that does not fit is not written. Its contracts cite `specs/Numbers.antt` and
-// `specs/Runs.antt`; callers' proofs use the laws of `proofs/NumberLaws.antt` and
+// run that does not fit is not written. Its contracts cite `specs/Numbers.antt`, `specs/Values.antt` and
+// `specs/Runs.antt`; callers' proofs use the laws of `proofs/NumberLaws.antt`, `proofs/ValueLaws.antt` and
 // `proofs/RunLaws.antt`.
 #![tactic(auto)]
 
-mod run;
-
-ghost use Rattle.std.specs.Prelude.{◌≡◌, ◌<◌, ◌^◌};
+ghost use Rattle.std.specs.Prelude.{◌≡◌, ◌<◌, ◌^◌, min};
 ghost use Rattle.octets.specs.Numbers.{byte_at, number_at, bytes_of};
+ghost use Rattle.octets.specs.Values.{values_from};
 ghost use Rattle.octets.specs.Runs.{Put};
 
 // The byte of s at a place, 0 beyond the end of s.
 pub fn byte(s: &[u8], at: usize) -> u8
     ensures { result ≡ byte_at s.now at }
 {
-    if at < s.len() { s[at] } else { 0 }
+    s.get(at).copied().unwrap_or(0)
 }
 
-// The number of the two bytes of s from a place on; bytes beyond the end of s count as 0.
-pub fn number2(s: &[u8], at: usize) -> u16
-    ensures { result ≡ number_at 2 s.now at }
+// The number of the N bytes of s from a place on, of eight at most; bytes beyond the end of s count as 0.
+// Kept: a sum, since `from_le_bytes` asks for eight bytes that are there, and of N at any place they would first be copied.
+pub fn number<const N: usize>(s: &[u8], at: usize) -> u64
+    ensures value { result ≡ number_at (min N 8) s.now at }
+    ensures upper_bound { result < 256 ^ min N 8 }
 {
     if s.len() <= at {
         return 0;
     }
-    let next = at + 1;
-    (byte(s, at) as u16) + 256 * (byte(s, next) as u16)
-}
-
-// The number of the three bytes of s from a place on, below 2^24; bytes beyond the end of s count
-// as 0.
-pub fn number3(s: &[u8], at: usize) -> u32
-    ensures value { result ≡ number_at 3 s.now at }
-    ensures upper_bound { result < 2 ^ 24 }
-{
-    if s.len() <= at {
-        return 0;
+    let mut number = 0;
+    for k in (0..N.min(8)).rev() {
+        number = number * 256 + u64::from(byte(s, at + k));
     }
-    let next = at + 1;
-    (byte(s, at) as u32) + 256 * (number2(s, next) as u32)
+    number
 }
 
-// The number of the four bytes of s from a place on; bytes beyond the end of s count as 0.
-pub fn number4(s: &[u8], at: usize) -> u32
-    ensures { result ≡ number_at 4 s.now at }
+// The lowest N bytes of a number: all of it where it is below 256 to the N.
+// Kept: a byte at each turn, since `to_le_bytes` has eight of them, and N says how many are wanted, also more.
+pub fn bytes<const N: usize>(number: u64) -> [u8; N]
+    ensures { result ≡ bytes_of N number }
 {
-    if s.len() <= at {
-        return 0;
+    let mut bytes = [0; N];
+    let mut rest = number;
+    for byte in &mut bytes {
+        *byte = (rest % 256) as u8;
+        rest /= 256;
     }
-    let next = at + 1;
-    (byte(s, at) as u32) + 256 * number3(s, next)
+    bytes
 }
 
-// The two bytes of a number.
-pub fn bytes2(v: u16) -> [u8; 2]
-    ensures { result ≡ bytes_of 2 v }
+// The N bytes of s from a place on; those beyond the end of s are 0.
+pub fn array<const N: usize>(s: &[u8], at: usize) -> [u8; N]
+    ensures { result ≡ values_from (byte_at s.now) at N }
 {
-    [(v % 256) as u8, (v / 256 % 256) as u8]
-}
-
-// The lowest three bytes of a number: all of it where it is below 2^24.
-pub fn bytes3(v: u32) -> [u8; 3]
-    ensures { result ≡ bytes_of 3 v }
-{
-    [
-        (v % 256) as u8,
-        (v / 256 % 256) as u8,
-        (v / 256 / 256 % 256) as u8,
-    ]
-}
-
-// The four bytes of a number.
-pub fn bytes4(v: u32) -> [u8; 4]
-    ensures { result ≡ bytes_of 4 v }
-{
-    [
-        (v % 256) as u8,
-        (v / 256 % 256) as u8,
-        (v / 256 / 256 % 256) as u8,
-        (v / 256 / 256 / 256 % 256) as u8,
-    ]
+    let mut bytes = [0; N];
+    if at < s.len() {
+        for (k, byte) in bytes.iter_mut().enumerate() {
+            *byte = self::byte(s, at + k);
+        }
+    }
+    bytes
 }
 
 // Writes all of a run into out from a place on, and answers true; where it does not fit, it leaves
@@ -90,12 +67,9 @@ pub fn bytes4(v: u32) -> [u8; 4]
 pub fn put(out: &mut [u8], at: usize, run: &[u8]) -> bool
     ensures { Put out.old at run.now result out.new }
 {
-    if out.len() < at {
+    if out.len() < at || out.len() - at < run.len() {
         return false;
     }
-    if out.len() - at < run.len() {
-        return false;
-    }
-    run::store(out, at, run);
+    out[at..at + run.len()].copy_from_slice(run);
     true
 }

@@ -3,13 +3,14 @@
 use mathlib.Core.Path.{◌≡◌, refl, sym, ap, ap₂, ◌∙◌, subst}
 use mathlib.Core.Bool.{Bool, true, false, cond, not, ◌&&◌, ◌||◌}
 use Prim.Native.Nat.{ℕ, zero, suc, ◌+◌, ◌-◌, ◌*◌, ◌/◌, ◌%◌, ◌^◌, ◌≤◌, ◌<◌, max, min}
-use native.Mathlib.Nat.{lt_of_lt_of_le, zero-div, one-mul, pow-suc, div-eq_of_lt, add-suc, suc-add, add-zero, le_of_suc-le-suc, not-suc-le-zero}
+use native.Mathlib.Nat.{pow-suc, add-suc, suc-add, add-zero, le_of_suc-le-suc, not-suc-le-zero}
 use native.Mathlib.Omega.{arith}
-use native.Mathlib.Decide.{dec_lt}
-use lib.Arith.{digits_mod, digits_div, mod-mul, lt-one}
-use lib.Bits.{bit_or, bit_and, and_mask, and_step, or_step, and_shr, or_shr}
-use lib.Pow.{shl_exact, shl-shr, shr-shr, pow-add, pow-lt, pow_mono, pow_pos}
-use lib.Dec.{lit<, eqb}
+use lib.Arith.{lt-one}
+use lib.Bits.{bit_or, bit_and}
+use lib.Pow.{shr-shr, split}
+use Rattle.std.specs.Int.{w8}
+use Rattle.std.proofs.lemmas.Nat.Bits.{bit_at-lt, bit_at_lowest, bit_at-suc, bit_at-zero, bit_at_above, bit_at_and, bit_at_or, bit_at-pow_same, bit_at-pow_other, bit_at_cat_low, bit_at-trailing_zeros, same_from_bits_below}
+use lib.Dec.{eqb}
 use lib.Count.{ones, ones_step, count_trailing_zeros}
 use borrow.Author.Tests.{ne_eqb}
 use Rattle.octets.specs.Values.{values_from}
@@ -19,63 +20,34 @@ use Rattle.positions.specs.Map.{bit, is_set, bits_from}
 
 pub bit_lt : (a k : ℕ) → bit a k < 2
 unfolding bit
-bit_lt a k = omega arith
+bit_lt a k = bit_at-lt a k
 
 pub bit_zero : (a : ℕ) → bit a 0 ≡ a % 2
 unfolding bit
-bit_zero a = omega arith
+bit_zero a = bit_at_lowest a
 
 pub bit_half : (a k : ℕ) → bit (a / 2) k ≡ bit a (suc k)
 unfolding bit
-bit_half a k = ap (λ (x : ℕ). x % 2) (shr-shr a 1 k ∙ ap (λ (n : ℕ). a / 2 ^ n) (omega arith))
+bit_half a k = sym (bit_at-suc a k)
 
 -- a number of n bits is its bits
 pub bits_ext : (n a b : ℕ) → a < 2 ^ n → b < 2 ^ n → ((k : ℕ) → k < n → bit a k ≡ bit b k) → a ≡ b
-bits_ext zero a b ha hb e = lt-one ha ∙ sym (lt-one hb)
-bits_ext (suc n) a b ha hb e =
-    let ha' : a < 2 ^ n * 2 = subst (λ (x : ℕ). a < x) (pow-suc 2 n) ha in
-    let hb' : b < 2 ^ n * 2 = subst (λ (x : ℕ). b < x) (pow-suc 2 n) hb in
-    let h : a / 2 ≡ b / 2 = bits_ext n (a / 2) (b / 2) (omega arith) (omega arith) (λ k l. bit_half a k ∙ e (suc k) (omega arith) ∙ sym (bit_half b k)) in
-    let l : a % 2 ≡ b % 2 = sym (bit_zero a) ∙ e 0 (omega arith) ∙ bit_zero b in
-    omega arith
+unfolding bit
+bits_ext n a b ha hb e = same_from_bits_below n a b ha hb e
 
 -- ---- the bits of `|`
-or_digit : (a b : ℕ) → bit_or a b % 2 ≡ max (a % 2) (b % 2)
-or_digit a b = ap (λ (x : ℕ). x % 2) (or_step a b) ∙ digits_mod (bit_or (a / 2) (b / 2)) (omega arith)
-
 pub bit_bit_or : (a b k : ℕ) → bit (bit_or a b) k ≡ max (bit a k) (bit b k)
 unfolding bit
-bit_bit_or a b k = ap (λ (x : ℕ). x % 2) (or_shr a b k) ∙ or_digit (a / 2 ^ k) (b / 2 ^ k)
+bit_bit_or a b k = bit_at_or a b k
 
 -- ---- one bit: `1 << k`
-pub one_shl : (k : ℕ) → k < 8 → 1 * 2 ^ k % 256 ≡ 2 ^ k
-one_shl k h = shl_exact 1 k 8 (lit< tt) (omega arith) ∙ one-mul (2 ^ k)
-
-pub and_one : (x : ℕ) → bit_and x 1 ≡ x % 2
-and_one x = and_mask x 1
-
 pub bit_pow_same : (k : ℕ) → bit (2 ^ k) k ≡ 1
 unfolding bit
-bit_pow_same k = ap (λ (x : ℕ). x / 2 ^ k % 2) (sym (one-mul (2 ^ k))) ∙ ap (λ (x : ℕ). x % 2) (shl-shr 1 k)
-
-bit_pow_low : (j k : ℕ) → k < j → bit (2 ^ k) j ≡ 0
-unfolding bit
-bit_pow_low j k h = ap (λ (x : ℕ). x % 2) (div-eq_of_lt (pow-lt h))
-
-bit_pow_high : (j d : ℕ) → bit (2 ^ (suc d + j)) j ≡ 0
-unfolding bit
-bit_pow_high j d =
-    ap (λ (x : ℕ). x / 2 ^ j % 2) (pow-add 2 (suc d) j)
-    ∙ ap (λ (x : ℕ). x % 2) (shl-shr (2 ^ suc d) j)
-    ∙ ap (λ (x : ℕ). x % 2) (pow-suc 2 d)
-    ∙ omega arith
+bit_pow_same k = bit_at-pow_same k
 
 pub bit_pow_other : (j k : ℕ) → (j ≡ k → ⊥) → bit (2 ^ k) j ≡ 0
-bit_pow_other j k ne =
-    elim (dec_lt k j) [
-      | yes l ↦ bit_pow_low j k l
-      | no g ↦ let e : suc (k - suc j) + j ≡ k = omega (arith, ne, g) in subst (λ (x : ℕ). bit (2 ^ x) j ≡ 0) e (bit_pow_high j (k - suc j))
-    ]
+unfolding bit
+bit_pow_other j k ne = bit_at-pow_other k j ne
 
 -- ---- the number whose bits are given by a test
 digit_by : (b : Bool) (x : ℕ) → (cond b 1 0 + 2 * x) / 2 ≡ x
@@ -146,8 +118,7 @@ set_or a b k = ap (λ (x : ℕ). eqb x 1) (bit_bit_or a b k) ∙ max_set (bit a 
 
 bit_bit_and : (a b k : ℕ) → bit (bit_and a b) k ≡ min (bit a k) (bit b k)
 unfolding bit
-bit_bit_and a b k =
-    ap (λ (x : ℕ). x % 2) (and_shr a b k ∙ and_step (a / 2 ^ k) (b / 2 ^ k)) ∙ digits_mod (bit_and (a / 2 ^ k / 2) (b / 2 ^ k / 2)) (omega arith)
+bit_bit_and a b k = bit_at_and a b k
 
 pub set_and : (a b k : ℕ) → is_set (bit_and a b) k ≡ (is_set a k && is_set b k)
 set_and a b k = ap (λ (x : ℕ). eqb x 1) (bit_bit_and a b k) ∙ min_set (bit a k) (bit b k) (bit_lt a k) (bit_lt b k)
@@ -165,32 +136,30 @@ set_shr b j k = ap (λ (x : ℕ). eqb (x % 2) 1) (shr-shr b j k)
 -- no bit of 0 is set, and none beyond a number's length
 pub set_none : (k : ℕ) → is_set 0 k ≡ false
 unfolding bit
-set_none k = ap (λ (x : ℕ). eqb (x % 2) 1) (zero-div (2 ^ k))
+set_none k = ap (λ (x : ℕ). eqb x 1) (bit_at-zero k)
 
 pub set_high : (n b k : ℕ) → b < 2 ^ n → n ≤ k → is_set b k ≡ false
 unfolding bit
-set_high n b k h l = ap (λ (x : ℕ). eqb (x % 2) 1) (div-eq_of_lt (lt_of_lt_of_le h (pow_mono l)))
+set_high n b k h l = ap (λ (x : ℕ). eqb x 1) (bit_at_above b n k h l)
 
--- the lowest n bits
-low_half : (b n : ℕ) → b % 2 ^ suc n / 2 ≡ b / 2 % 2 ^ n
-low_half b n =
-    ap (λ (x : ℕ). b % x / 2) (pow-suc 2 n) ∙ ap (λ (x : ℕ). x / 2) (mod-mul b (pow_pos n) (omega arith)) ∙ digits_div (b / 2 % 2 ^ n) (omega arith)
-
-low_digit : (b n : ℕ) → b % 2 ^ suc n % 2 ≡ b % 2
-low_digit b n =
-    ap (λ (x : ℕ). b % x % 2) (pow-suc 2 n) ∙ ap (λ (x : ℕ). x % 2) (mod-mul b (pow_pos n) (omega arith)) ∙ digits_mod (b / 2 % 2 ^ n) (omega arith)
-
+-- the lowest n bits, which stand behind the others
 pub set_low : (n b k : ℕ) → k < n → is_set (b % 2 ^ n) k ≡ is_set b k
-set_low zero b k h = absurd (not-suc-le-zero h)
-set_low (suc n) b zero h = ap (λ (x : ℕ). eqb x 1) (bit_zero (b % 2 ^ suc n) ∙ low_digit b n ∙ sym (bit_zero b))
-set_low (suc n) b (suc k) h =
-    ap (λ (x : ℕ). eqb x 1) (sym (bit_half (b % 2 ^ suc n) k) ∙ ap (λ (x : ℕ). bit x k) (low_half b n))
-    ∙ set_low n (b / 2) k (le_of_suc-le-suc h)
-    ∙ ap (λ (x : ℕ). eqb x 1) (bit_half b k)
+unfolding bit
+set_low n b k h =
+    ap (λ (x : ℕ). eqb x 1) (sym (bit_at_cat_low (b / 2 ^ n) n (b % 2 ^ n) k h) ∙ ap (λ (x : ℕ). x / 2 ^ k % 2) (split b n))
 
--- the lowest bit that is set
+-- the lowest bit that is set, as a number of 32 bits counts the zeros below it ..
 pub lowest_set : (b : ℕ) → b < 256 → (b ≡ 0 → ⊥) → count_trailing_zeros 32 b ≡ first (is_set b) 0 8
 unfolding bit count_trailing_zeros first
 lowest_set b h d =
     ap (λ (e : Bool). cond e 8 (count_trailing_zeros 32 b)) (sym (ne_eqb b 0 d))
     ∙ same_values (λ x. cond (eqb x 0) 8 (count_trailing_zeros 32 x)) (λ x. first (is_set x) 0 8) 256 b refl h
+
+-- .. and as a byte does
+pub lowest_of_byte : (b : ℕ) → b < 256 → count_trailing_zeros 8 b ≡ first (is_set b) 0 8
+unfolding bit count_trailing_zeros first
+lowest_of_byte b h = same_values (λ x. count_trailing_zeros 8 x) (λ x. first (is_set x) 0 8) 256 b refl h
+
+-- there is one unless the byte is 0
+pub some_set : (b : ℕ) → b < 256 → (b ≡ 0 → ⊥) → first (is_set b) 0 8 < 8
+some_set b h d = let t = bit_at-trailing_zeros w8 b (omega (arith, d)) h in let e = lowest_of_byte b h in omega (arith, e, t.0)

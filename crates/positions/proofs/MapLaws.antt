@@ -4,16 +4,19 @@ use mathlib.Core.Path.{◌≡◌, refl, sym, ap, ap₂, ◌∙◌}
 use mathlib.Core.Bool.{Bool, true, false, cond, ◌||◌, or-true, or-false}
 use mathlib.Core.Logic.{⊎_elim}
 use mathlib.Core.List.{List}
-use Prim.Native.Nat.{ℕ, ◌+◌, ◌-◌, ◌*◌, ◌/◌, ◌%◌, ◌^◌, ◌≤◌, ◌<◌, max}
+use Prim.Native.Nat.{ℕ, zero, suc, ◌+◌, ◌-◌, ◌*◌, ◌/◌, ◌%◌, ◌^◌, ◌≤◌, ◌<◌, max}
 use native.Mathlib.Nat.{zero-div, max-zero, zero-add, add-zero, mod-lt}
+use native.Mathlib.Numerals.{add-one}
 use native.Mathlib.Decide.{ℕ_discrete}
 use native.Mathlib.Omega.{arith}
-use lib.ListN.{length, set, get_or-eq_default}
-use lib.Seq.{get_or-set_same, get_or-set_other, ext_get_or}
+use lib.ListN.{length, take, set, get_or-eq_default}
+use lib.Seq.{take_all, get_or-set_same, get_or-set_other, ext_get_or}
 use lib.Bits.{bit_or}
 use lib.Pow.{pow_pos}
 use lib.Count.{ones}
 use lib.Dec.{eqb}
+use Rattle.std.specs.Prelude.{sum_by}
+use Rattle.std.proofs.lemmas.List.Sums.{sum_by_more}
 use borrow.Author.Tests.{eq-eqb, ne_eqb, eqb-true, eqb-false}
 use Rattle.reason.proofs.Bools.{le_or_lt}
 use Rattle.octets.specs.Numbers.{byte_at, AllBytes}
@@ -21,7 +24,7 @@ use Rattle.octets.proofs.ValueLaws.{value_at, same_values, values_long}
 use Rattle.positions.specs.Spans.{count}
 use Rattle.positions.specs.Map.{bit, is_set, held, bits_from, map_of}
 use Rattle.positions.proofs.BitLaws.{bit_lt, bits_ext, bit_bit_or, bit_pow_same, bit_pow_other, bits_below, bit_from, set_low, ones_count}
-use Rattle.positions.proofs.SpanLaws.{count_same, count_moved, count_split}
+use Rattle.positions.proofs.SpanLaws.{count_same, count_moved, count_split, count_none}
 
 -- ---- one position and its byte
 pub held_in : (m : List ℕ) (i k : ℕ) → k < 8 → held m (i * 8 + k) ≡ is_set (byte_at m i) k
@@ -71,6 +74,22 @@ count_byte m i h =
     ap (λ (n : ℕ). count (held m) 0 (i * 8) + n) (sym (byte_count m i h) ∙ ap (λ (p : ℕ). count (held m) p 8) (sym (zero-add (i * 8))))
     ∙ sym (count_split (held m) 0 (i * 8) 8)
     ∙ ap (count (held m) 0) e
+
+-- .. and of the first i bytes, of which those beyond the map have none
+past_the_end : (m : List ℕ) (i : ℕ) → length m ≤ i → sum_by ones (take (i + 1) m) ≡ sum_by ones (take i m) + ones (byte_at m i)
+past_the_end m i h =
+    let longer : length m ≤ i + 1 = omega arith in
+    let none : ones 0 ≡ 0 = ones_count 0 0 (omega arith) ∙ count_none (is_set 0) 0 in
+    rw (take_all (i + 1) m longer, take_all i m h, get_or-eq_default m 0 h, none) (sym (add-zero (sum_by ones m)))
+
+pub count_bytes : (m : List ℕ) (i : ℕ) → AllBytes m → sum_by ones (take i m) ≡ count (held m) 0 (i * 8)
+count_bytes m zero all = sym (count_none (held m) 0)
+count_bytes m (suc i) all =
+    ap (λ (k : ℕ). sum_by ones (take k m)) (sym (add-one i))
+    ∙ ⊎_elim (past_the_end m i) (sum_by_more ones m i 0) (le_or_lt (length m) i)
+    ∙ ap (λ (n : ℕ). n + ones (byte_at m i)) (count_bytes m i all)
+    ∙ count_byte m i (all i)
+    ∙ ap (λ (k : ℕ). count (held m) 0 (k * 8)) (add-one i)
 
 -- .. and of the lowest bits of the byte behind them
 pub count_low : (m : List ℕ) (i k : ℕ) → k ≤ 8 → count (held m) 0 (i * 8) + ones (byte_at m i % 2 ^ k) ≡ count (held m) 0 (i * 8 + k)

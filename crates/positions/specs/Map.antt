@@ -1,8 +1,10 @@
 -- The map of a reception (01, "Reception"): which positions of the file are held.
 -- Assumes nothing.
-use Rattle.std.specs.Prelude.{Bool, cond, List, ℕ, zero, suc, ◌+◌, ◌*◌, ◌/◌, ◌%◌, ◌^◌, eqb}
+use Rattle.std.specs.Prelude.{Bool, cond, not, List, ℕ, zero, suc, ◌+◌, ◌*◌, ◌/◌, ◌%◌, ◌^◌, eqb}
 use Rattle.octets.specs.Numbers.{byte_at}
 use Rattle.octets.specs.Values.{values_from}
+use Rattle.positions.specs.declared.Side.{Side}
+use Rattle.positions.specs.declared.Side.TheVariants.{Held, Unheld}
 
 -- bit k of a byte, counted from the low end: 0 or 1
 unfoldable pub bit : ℕ → ℕ → ℕ
@@ -15,6 +17,11 @@ is_set b k = eqb (bit b k) 1
 -- position p is bit p mod 8 of map byte p / 8; set means held
 unfoldable pub held : List ℕ → ℕ → Bool
 held map p = is_set (byte_at map (p / 8)) (p % 8)
+
+-- the positions on a side of the map: the held ones, or the others
+abbrev pub on_side : List ℕ → Side → ℕ → Bool
+on_side map Held = held map
+on_side map Unheld = λ p. not (held map p)
 
 -- how many bytes a map of a file of l bytes has: l / 8, rounded up
 abbrev pub map_size : ℕ → ℕ

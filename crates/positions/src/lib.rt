@@ -6,14 +6,20 @@
 // the map none is held.
 #![tactic(auto)]
 
-mod counting;
 mod search;
 
-ghost use Rattle.std.specs.Prelude.{◌≡◌, not, ◌||◌, ◌-◌, ◌%◌, ◌^◌, ◌<◌, length, eqb};
+ghost use Rattle.std.specs.Prelude.{◌≡◌, ◌||◌, ◌-◌, ◌%◌, ◌^◌, ◌<◌, length, eqb, sum_by};
 ghost use Rattle.std.specs.Int.Bits.{bit_or};
 ghost use Rattle.std.specs.Int.Count.{ones};
 ghost use Rattle.positions.specs.Spans.{count, first};
-ghost use Rattle.positions.specs.Map.{held, is_set, map_of};
+ghost use Rattle.positions.specs.Map.{held, is_set, map_of, on_side};
+
+// A side of a map: its held positions, or the others.
+#[derive(Clone, Copy, Debug, PartialEq, Eq)]
+pub enum Side {
+    Held,
+    Unheld,
+}
 
 // Whether a bit of a byte is set; from the eighth on none is.
 pub fn is_set(b: u8, k: usize) -> bool
@@ -39,72 +45,55 @@ pub fn lowest(b: u8, n: usize) -> u8
 pub fn count_set(b: u8) -> u32
     ensures { result ≡ ones b }
 {
-    u32::count_ones(b as u32)
+    b.count_ones()
 }
 
 // Whether position p is held; beyond the map none is.
+#[tactic(auto, using(crate::proofs::MapLaws::held_by, crate::proofs::MapLaws::held_past))]
 pub fn is_held(map: &[u8], p: usize) -> bool
     ensures { result ≡ held map.now p }
 {
-    if map.len() <= p / 8 {
-        return false;
-    }
-    is_set(map[p / 8], p % 8)
-}
-
-// The byte with bit k set.
-fn with_set(b: u8, k: usize) -> u8
-    requires { k < 8 }
-    ensures { result ≡ bit_or b (2 ^ k) }
-{
-    b | (1 << k)
+    map.get(p / 8).is_some_and(|b| is_set(*b, p % 8))
 }
 
 // Position p becomes held; beyond the map nothing changes.
 pub fn mark(map: &mut [u8], p: usize)
     ensures { map.new ≡ map_of (λ q. held map.old q || eqb q p) (length map.old) }
 {
-    if map.len() <= p / 8 {
-        return;
+    if p / 8 < map.len() {
+        map[p / 8] |= 1 << (p % 8);
     }
-    map[p / 8] = with_set(map[p / 8], p % 8);
 }
 
 // How many of the first n positions are held; beyond the map none is.
 pub fn count_held(map: &[u8], n: u32) -> u32
     ensures { result ≡ count (held map.now) 0 n }
 {
-    let i = (n / 8) as usize;
-    if map.len() <= i {
-        return counting::count_bytes(map, map.len());
-    }
-    let whole = counting::count_bytes(map, i);
-    whole + count_set(lowest(map[i], (n % 8) as usize))
+    let whole = (n / 8) as usize;
+    let last = lowest(octets::byte(map, whole), (n % 8) as usize);
+    count_bytes(&map[..whole.min(map.len())]) + count_set(last)
 }
 
-// The first position from `from` on and below n that is held; where there is none, n (and `from` where n is
-// not above it).
-pub fn first_held(map: &[u8], from: u32, n: u32) -> u32
-    ensures { result ≡ first (held map.now) from (n - from) }
+// How many bits of all bytes of a map are set.
+fn count_bytes(map: &[u8]) -> u32
+    requires { sum_by ones map.now < 2 ^ 32 }
+    ensures { result ≡ sum_by ones map.now }
 {
-    if n <= from {
-        return from;
-    }
-    let end = search::end_below(map, n);
-    if end <= from as usize {
-        return n;
-    }
-    let found = search::first_on(map, from as usize, end, true);
-    if found < end { found as u32 } else { n }
+    map.iter().map(|b| count_set(*b)).sum()
 }
 
-// The same of one that is not held; beyond the map none is held.
-pub fn first_unheld(map: &[u8], from: u32, n: u32) -> u32
-    ensures { result ≡ first (λ p. not (held map.now p)) from (n - from) }
+// The first position from `from` on and below n that is on a side of the map, beyond which none is held; where there
+// is none, n (and `from` where n is not above it).
+pub fn first_on(map: &[u8], side: Side, from: u32, n: u32) -> u32
+    ensures { result ≡ first (on_side map.now side) from (n - from) }
 {
     let end = search::end_below(map, n);
-    if end <= from as usize {
-        return from;
+    let found = search::first_in(map, side, from as usize, end);
+    if found < end {
+        return found as u32;
     }
-    search::first_on(map, from as usize, end, false) as u32
+    match side {
+        Side::Held => from.max(n),
+        Side::Unheld => found as u32,
+    }
 }

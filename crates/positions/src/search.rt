@@ -1,65 +1,59 @@
-// The search for the first position of a map that is held, or that is not, map byte by map byte.
-ghost use Rattle.std.specs.Prelude.{◌≡◌, not, ◌-◌, ◌*◌, ◌^◌, ◌≤◌, ◌<◌, min, length, eqb};
-ghost use Rattle.octets.specs.Numbers.{byte_at};
+// The search for the first position of a map that is on a side, map byte by map byte.
+ghost use Rattle.std.specs.Prelude.{◌≡◌, not, ◌-◌, ◌*◌, ◌^◌, ◌≤◌, ◌<◌, min, length, eqb, position};
 ghost use Rattle.positions.specs.Spans.{first};
-ghost use Rattle.positions.specs.Map.{is_set};
-ghost use Rattle.positions.specs.Inner.{on_side, side_of, none_of};
+ghost use Rattle.positions.specs.Map.{is_set, on_side};
+ghost use Rattle.positions.specs.Inner.{side_of};
 
-// The byte with a bit set where the position is on the side that is asked for: held, or not held.
-fn side_of(b: u8, side: bool) -> u8
+use super::Side;
+
+// The byte with a bit set where the position is on the side.
+fn side_of(b: u8, side: Side) -> u8
     ensures { result ≡ side_of b side }
 {
-    if side { b } else { 255 - b }
+    match side {
+        Side::Held => b,
+        Side::Unheld => !b,
+    }
 }
 
 // The lowest bit of a byte that is set, 8 where none is.
+#[tactic(auto, using(crate::proofs::BitLaws::lowest_of_byte))]
 fn lowest_set(b: u8) -> usize
     ensures { result ≡ first (is_set b) 0 8 }
 {
-    if b == 0 {
-        return 8;
-    }
-    u32::trailing_zeros(b as u32) as usize
+    b.trailing_zeros() as usize
 }
 
-// The map byte of which no position is on the side.
-fn none_of(side: bool) -> u8
-    ensures { result ≡ none_of side }
+// The first of some map bytes that has a position on the side: its index. The byte that has none is what `side_of` gives
+// for 0. It is not put in line, so that its loop is the same short one for every search (docs/PERFORMANCE.md).
+#[inline(never)]
+fn first_byte(bytes: &[u8], side: Side) -> Option<usize>
+    ensures { result ≡ position (λ b. not (eqb b (side_of 0 side))) bytes.now }
 {
-    if side { 0 } else { 255 }
+    let none = side_of(0, side);
+    bytes.iter().position(|b| *b != none)
 }
 
-// The first index from i on and below m whose byte is another than b; m where there is none.
-fn other_than(map: &[u8], i: usize, m: usize, b: u8) -> usize
-    requires { (i ≤ m) × (m ≤ length map.now) }
-    ensures { result ≡ first (λ j. not (eqb (byte_at map.now j) b)) i (m - i) }
-{
-    let mut j = i;
-    while j < m {
-        if map[j] != b {
-            return j;
-        }
-        j += 1;
-    }
-    m
-}
-
-// The first position from `from` on and below n that is held, or where `side` is false, that is not
-// held; n where there is none. A map byte is looked at once, and those without such a position are
-// passed over in a loop of their own.
-pub(crate) fn first_on(map: &[u8], from: usize, n: usize, side: bool) -> usize
-    requires { (from ≤ n) × (n < 2 ^ 32) × (n ≤ length map.now * 8) }
+// The first position from `from` on and below n, in the map, that is on a side; where there is none, n (and `from` where n
+// is not above it). A map byte is looked at once, and those without such a position are passed over.
+pub(crate) fn first_in(map: &[u8], side: Side, from: usize, n: usize) -> usize
+    requires { (n < 2 ^ 32) × (n ≤ length map.now * 8) }
     ensures { result ≡ first (on_side map.now side) from (n - from) }
 {
-    let mut p = from;
-    while p < n {
-        let k = lowest_set(side_of(map[p / 8], side) >> (p % 8));
-        if k < 8 {
-            return if p + k < n { p + k } else { n };
-        }
-        p = other_than(map, p / 8 + 1, (n + 7) / 8, none_of(side)) * 8;
+    if n <= from {
+        return from;
     }
-    n
+    let k = lowest_set(side_of(map[from / 8], side) >> (from % 8));
+    let found = k < 8;
+    if found {
+        return n.min(from + k);
+    }
+    let next = from / 8 + 1;
+    let end = (n + 7) / 8;
+    match first_byte(&map[next..end], side) {
+        Some(i) => n.min((next + i) * 8 + lowest_set(side_of(map[next + i], side))),
+        None => n,
+    }
 }
 
 // Where the positions end that are below n and in the map: at n, or behind the last position of the map. A caller

@@ -1,71 +1,65 @@
-// Frames by the numbers of a case (01, "Frame").
-use program_tools::cells::{A, C, D, F, G, H, I, O, P, S, X, Y, Z};
-use program_tools::made::Bytes;
-use program_tools::{cells, made};
+// Frames by the numbers of a case (01, "Frame"). Each is written into a space that is lent, and handed out as a part of it.
+ghost use Rattle.std.specs.Prelude.{◌<◌};
 
-// The head of a frame from UOSAT5-11 to VA3SFL-0, the flags and the file number.
-pub(crate) fn head(c: &[u32; 32]) -> Bytes {
-    let bytes = [0; 640];
-    let run = before_number(c);
-    let begun = made::with(Bytes { bytes, size: 21 }, 0, &run);
-    made::with_number(begun, 17, c[I])
+use program_tools::cases::Case;
+use program_tools::made;
+
+// How many bytes of space a frame is lent.
+pub(crate) const SPACE: usize = 640;
+
+// The file of which the pieces are: the alphabet over and over.
+const FILE: [u8; 286] =
+    *b"ABCDEFGHIJKLMNOPQRSTUVWXYZABCDEFGHIJKLMNOPQRSTUVWXYZABCDEFGHIJKLMNOPQRSTUVWXYZ\
+    ABCDEFGHIJKLMNOPQRSTUVWXYZABCDEFGHIJKLMNOPQRSTUVWXYZABCDEFGHIJKLMNOPQRSTUVWXYZ\
+    ABCDEFGHIJKLMNOPQRSTUVWXYZABCDEFGHIJKLMNOPQRSTUVWXYZABCDEFGHIJKLMNOPQRSTUVWXYZ\
+    ABCDEFGHIJKLMNOPQRSTUVWXYZABCDEFGHIJKLMNOPQRSTUVWXYZ";
+
+// The lowest byte of the number of a letter.
+fn byte(case: &Case, letter: u8) -> u8 {
+    let [lowest, _, _, _] = case.number(letter).to_le_bytes();
+    lowest
 }
 
-// The bytes of a frame before its file number: destination, source, control, protocol and flags.
-fn before_number(c: &[u32; 32]) -> [u8; 17] {
-    [
-        (c[A] % 256) as u8,
-        0x82,
-        0x66,
-        0xA6,
-        0x8C,
-        0x98,
-        (c[H] % 256) as u8,
-        0xAA,
-        0x9E,
-        0xA6,
-        0x82,
-        0xA8,
-        0x6A,
-        (c[S] % 256) as u8,
-        (c[C] % 256) as u8,
-        (c[P] % 256) as u8,
-        (c[G] % 256) as u8,
-    ]
-}
-
-// A piece of the file, which is the alphabet over and over.
-pub(crate) fn piece(c: &[u32; 32]) -> Bytes {
-    let offset = octets::bytes3(c[O]);
-    let begun = made::with(head(c), 22, &offset);
-    closed(with_letters(begun, c), (c[D] % 300) as usize + 9, c)
-}
-
-// The data of a piece, behind what stands before them.
-fn with_letters(m: Bytes, c: &[u32; 32]) -> Bytes {
-    let letters = made::behind(
-        b"ABCDEFGHIJKLMNOPQRSTUVWXYZABCDEFGHIJKLMNOPQRSTUVWXYZABCDEFGHIJKLMNOPQRSTUVWXYZ\
-        ABCDEFGHIJKLMNOPQRSTUVWXYZABCDEFGHIJKLMNOPQRSTUVWXYZABCDEFGHIJKLMNOPQRSTUVWXYZ\
-        ABCDEFGHIJKLMNOPQRSTUVWXYZABCDEFGHIJKLMNOPQRSTUVWXYZABCDEFGHIJKLMNOPQRSTUVWXYZ\
-        ABCDEFGHIJKLMNOPQRSTUVWXYZABCDEFGHIJKLMNOPQRSTUVWXYZ",
-        (c[O] % 26) as usize,
+// Writes the head of a frame from UOSAT5-11 to VA3SFL-0, the flags and the file number.
+pub(crate) fn put_head(case: &Case, space: &mut [u8]) {
+    octets::put(
+        space,
+        0,
+        b"\0\x82\x66\xA6\x8C\x98\0\xAA\x9E\xA6\x82\xA8\x6A",
     );
-    turned(made::with(m, 25, cells::first(letters, c[D])), c)
+    octets::put(space, 0, &[byte(case, b'a')]);
+    octets::put(space, 6, &[byte(case, b'h')]);
+    let behind = [
+        byte(case, b's'),
+        byte(case, b'c'),
+        byte(case, b'p'),
+        byte(case, b'g'),
+    ];
+    octets::put(space, 13, &behind);
+    octets::put(space, 17, &case.number(b'i').to_le_bytes());
 }
 
-// A piece with bits turned over in one byte of its data.
-fn turned(m: Bytes, c: &[u32; 32]) -> Bytes {
-    let mut bytes = m.bytes;
-    let size = m.size;
-    cells::turn(&mut bytes, c[F] % 300 + 25, c[Y]);
-    Bytes { bytes, size }
+// A piece of the file, with bits turned over in one byte of its data.
+pub(crate) fn piece<'a>(case: &Case, space: &'a mut [u8]) -> &'a [u8] {
+    let offset = case.number(b'o');
+    put_head(case, space);
+    octets::put(space, 22, &octets::bytes::<3>(u64::from(offset)));
+    let data = made::behind(&FILE, (offset % 26) as usize);
+    octets::put(space, 25, made::first(data, case.number(b'd') as usize));
+    made::turn(
+        space,
+        (case.number(b'f') % 300 + 25) as usize,
+        byte(case, b'y'),
+    );
+    closed(case, space, (case.number(b'd') % 300) as usize + 9)
 }
 
 // The directory entry of figure 3.2, with another number or offset.
-pub(crate) fn entry(c: &[u32; 32]) -> Bytes {
-    let numbered = made::with_number(head(c), 21, c[O]);
-    let filled = made::with(
-        numbered,
+pub(crate) fn entry<'a>(case: &Case, space: &'a mut [u8]) -> &'a [u8] {
+    put_head(case, space);
+    octets::put(space, 21, &case.number(b'o').to_le_bytes());
+    octets::put(
+        space,
         25,
         b"\xE0\x7E\x3C\x38\xEE\xCF\x3D\
         \x38\xAA\x55\x01\x00\x04\x67\xAE\x00\x00\x02\x00\x08\x42\x4C\x39\
@@ -75,16 +69,17 @@ pub(crate) fn entry(c: &[u32; 32]) -> Bytes {
         \x00\x02\xFB\x44\x0A\x00\x02\x84\x0C\x0B\x00\x02\x50\x00\x00\x00\
         \x00",
     );
-    closed(filled, (c[D] % 300) as usize, c)
+    closed(case, space, (case.number(b'd') % 300) as usize)
 }
 
 // A frame whose information has n bytes, with its check behind them.
-fn closed(m: Bytes, n: usize, c: &[u32; 32]) -> Bytes {
-    let bytes = m.bytes;
-    let right = remainder::remainder(made::first(made::behind(&bytes, 16), n));
-    let low_first = octets::bytes2(check(right, c[X]));
-    let two = [low_first[1], low_first[0]];
-    lent(made::with(m, n % 400 + 16, &two), n % 400 + 18, c)
+fn closed<'a>(case: &Case, space: &'a mut [u8], n: usize) -> &'a [u8]
+    requires { n < 400 }
+{
+    let right = remainder::remainder(made::first(made::behind(space, 16), n));
+    let check = check(right, case.number(b'x'));
+    octets::put(space, n + 16, &check.to_be_bytes());
+    lent(case, space, n + 18)
 }
 
 // The check: the right one with bits turned over, or one that is given.
@@ -94,9 +89,9 @@ fn check(right: u16, x: u32) -> u16 {
 }
 
 // A frame of a size, or as many of its bytes as are lent.
-pub(crate) fn lent(m: Bytes, size: usize, c: &[u32; 32]) -> Bytes {
-    if c[Z] == 0 {
-        return made::cut(m, size);
+pub(crate) fn lent<'a>(case: &Case, space: &'a [u8], size: usize) -> &'a [u8] {
+    match case.number(b'z') {
+        0 => made::first(space, size),
+        z => made::first(space, (z % 1000) as usize),
     }
-    made::cut(m, (c[Z] % 1000) as usize)
 }

@@ -11,46 +11,24 @@ mod reading;
 mod requests;
 mod takes;
 
-use program_tools::cells::OPERATION;
-use program_tools::lines;
-use program_tools::lines::{Reading, SPACE};
+use program_tools::cases;
+use program_tools::cases::Case;
+use std::io;
 
-// The number of standard input.
-const STDIN: i32 = 0;
-
-fn main() {
-    let mut text = [0; SPACE];
-    let n = io::read_full(STDIN, &mut text);
-    lines::end(all(&text[..n]), n == SPACE);
-}
-
-// Reads lines, and runs their cases.
-fn all(text: &[u8]) -> Reading {
-    let mut reading = lines::nothing();
-    let mut i = 0;
-    while i < text.len() {
-        reading = next(text[i], reading);
-        i += 1;
-    }
-    reading
-}
-
-// One letter more, and the case that is due behind it.
-fn next(b: u8, before: Reading) -> Reading {
-    let reading = lines::next(b, before);
-    if reading.due {
-        let cells = reading.cells;
-        return lines::answered(reading, run(&cells));
-    }
-    reading
+fn main(rt: HostRuntime) -> io::Result<()> {
+    cases::run(&rt, answer)
 }
 
 // What the operation of a case answers: four numbers, the reason, 0 where it accepts, and three more.
-fn run(c: &[u32; 32]) -> [u32; 4] {
-    let operation = c[OPERATION];
-    match operation {
-        1 => takes::taken(c),
-        8 | 9 | 14 => requests::run(c, operation),
-        _ => reading::run(c, operation),
+fn answer(case: &Case) -> [u32; 4] {
+    match case.operation() {
+        1 => takes::taken(case),
+        8 => requests::read(case),
+        9 => requests::hole_read(case),
+        10 => reading::piece_read(case),
+        11 => reading::entry_read(case),
+        13 => reading::entry_stations(case),
+        14 => requests::stations_read(case),
+        _ => reading::header_read(case),
     }
 }

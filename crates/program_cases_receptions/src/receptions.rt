@@ -1,98 +1,62 @@
 // Receptions by the numbers of a case: opened, joined and listed by the station (01, "Reception").
-use program_tools::cells::{B, E, F, J, K, L, M, N, Q, R, U, UNTOLD, V, W, Y};
-use program_tools::{cells, made};
+use program_tools::cases::{Case, UNTOLD};
+use program_tools::made;
 
 // The buffer of the second reception: the first 26 bytes of the file, of which one can be another, and 5A.
-fn second_buffer(c: &[u32; 32]) -> [u8; 33000] {
+fn second_buffer(case: &Case) -> [u8; 33000] {
     let mut buffer = [0x5A; 33000];
     octets::put(&mut buffer, 0, b"ABCDEFGHIJKLMNOPQRSTUVWXYZ");
-    cells::turn(&mut buffer, c[F], c[Y]);
+    let [bits, _, _, _] = case.number(b'y').to_le_bytes();
+    made::turn(&mut buffer, case.number(b'f') as usize, bits);
     buffer
 }
 
-// What the operation of a case answers.
-pub(crate) fn run(c: &[u32; 32], operation: u32) -> [u32; 4] {
-    match operation {
-        3 => listed(c),
-        _ => kept(c, operation),
-    }
-}
-
-// Opens or joins: the reason, then how many are new, the first three bytes of the map, and how many bytes of map and
-// buffer changed.
-fn kept(c: &[u32; 32], operation: u32) -> [u32; 4] {
-    let mut map = made::map(c[K], c[R]);
-    let mut buffer = made::buffer(c[E]);
-    let told = called(
-        c,
-        operation,
-        cells::lent(&mut map, c[M]),
-        cells::lent(&mut buffer, c[B]),
+// Opens: the reason, then that nothing is told, the first three bytes of the map, and how many bytes of map and buffer
+// changed.
+pub(crate) fn opened(case: &Case) -> [u32; 4] {
+    let mut map = made::map(case.number(b'k'), case.number(b'r'));
+    let mut buffer = made::buffer(case.number(b'e'));
+    let reason = station::boundary::station_open(
+        case.number(b'l'),
+        made::lent(&mut map, case.number(b'm') as usize),
+        made::lent(&mut buffer, case.number(b'b') as usize),
     );
-    cells::left(c, told, &map, &buffer)
+    case.left([u32::from(reason), UNTOLD], &map, &buffer)
 }
 
-// The reason, and how many are new.
-fn called(c: &[u32; 32], operation: u32, map: &mut [u8], buffer: &mut [u8]) -> [u32; 2] {
-    match operation {
-        0 => opened(c, map, buffer),
-        _ => joined(c, map, buffer),
-    }
-}
-
-// The same of opening, which tells nothing.
-fn opened(c: &[u32; 32], map: &mut [u8], buffer: &mut [u8]) -> [u32; 2] {
-    let reason = station::boundary::station_open(c[L], map, buffer);
-    [reason as u32, UNTOLD]
-}
-
-// The same of joining, for which the second reception is made.
-fn joined(c: &[u32; 32], first_map: &mut [u8], first_buffer: &mut [u8]) -> [u32; 2] {
-    let map = made::map(c[J], c[R]);
-    let buffer = second_buffer(c);
-    join(
-        c,
-        first_map,
-        first_buffer,
-        cells::first(&map, c[V]),
-        cells::first(&buffer, c[W]),
-    )
-}
-
-// The same of joining with a second reception that is there.
-fn join(
-    c: &[u32; 32],
-    first_map: &mut [u8],
-    first_buffer: &mut [u8],
-    map: &[u8],
-    buffer: &[u8],
-) -> [u32; 2] {
+// Joins a second reception: the reason, then how many are new, the first three bytes of the map, and how many bytes of map
+// and buffer changed.
+pub(crate) fn joined(case: &Case) -> [u32; 4] {
+    let mut map = made::map(case.number(b'k'), case.number(b'r'));
+    let mut buffer = made::buffer(case.number(b'e'));
+    let second_map = made::map(case.number(b'j'), case.number(b'r'));
+    let second_buffer = second_buffer(case);
     let mut new = UNTOLD;
     let reason = station::boundary::station_join(
-        c[N],
-        c[L],
-        first_map,
-        first_buffer,
-        c[Q],
-        c[U],
-        map,
-        buffer,
+        case.number(b'n'),
+        case.number(b'l'),
+        made::lent(&mut map, case.number(b'm') as usize),
+        made::lent(&mut buffer, case.number(b'b') as usize),
+        case.number(b'q'),
+        case.number(b'u'),
+        made::first(&second_map, case.number(b'v') as usize),
+        made::first(&second_buffer, case.number(b'w') as usize),
         &mut new,
     );
-    [reason as u32, new]
+    case.left([u32::from(reason), new], &map, &buffer)
 }
 
 // Lists: the reason, then start and length of the hole.
-fn listed(c: &[u32; 32]) -> [u32; 4] {
-    let map = made::map(c[K], c[R]);
+pub(crate) fn listed(case: &Case) -> [u32; 4] {
+    let map = made::map(case.number(b'k'), case.number(b'r'));
     let mut start = UNTOLD;
     let mut length = UNTOLD;
     let reason = station::boundary::station_list(
-        c[L],
-        cells::first(&map, c[M]),
-        c[E],
+        case.number(b'l'),
+        made::first(&map, case.number(b'm') as usize),
+        case.number(b'e'),
         &mut start,
         &mut length,
     );
-    [reason as u32, start, length, 0]
+    [u32::from(reason), start, length, 0]
 }

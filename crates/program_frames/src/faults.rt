@@ -1,170 +1,237 @@
 // Every fault planted alone, and every pair of faults that one frame can have: the first in the order
 // of the paper is answered. A question mark stands behind an answer that is another one.
-use crate::{answers, bases};
-use program_tools::made::Bytes;
-use program_tools::{made, say};
+use crate::bases;
+use crate::kinds::Kind;
+use program_tools::made;
+use program_tools::planted::Planted;
+use program_tools::show::Answer;
+use reason::Reason;
+use std::alloc::{AllocError, Global};
+use std::{fmt, io};
 
-// The faults, numbered in the paper's order. 1 to 4 are those of the first 16 bytes: destination, source, control and
-// protocol; 8 to 10 are flags, flags that are not whole, and an offset.
-pub(crate) const SHORT: usize = 0;
+// The faults, in the paper's order. From the destination to the protocol they are those of the first 16 bytes.
+#[derive(Clone, Copy, Debug, PartialEq, Eq, PartialOrd, Ord)]
+pub(crate) enum Fault {
+    // Only the first 15 bytes are there.
+    Short,
+    // The destination is in lower case.
+    Destination,
+    // The source has a low bit set.
+    Source,
+    // The control byte is 13.
+    Control,
+    // The protocol is that of the other reading.
+    Protocol,
+    // The information is longer than 255 bytes.
+    Long,
+    // The information is too short.
+    Information,
+    // The last check byte is wrong.
+    Check,
+    // The flags have bit 0 set.
+    Flags,
+    // An entry's flags have bit 5 clear.
+    NotWhole,
+    // An entry's offset is 1.
+    Offset,
+    // A piece has no data.
+    NoData,
+    // An entry's number is not item 01's.
+    Header,
+}
 
-const LONG: usize = 5;
+impl Fault {
+    const ALL: [Fault; 13] = [
+        Fault::Short,
+        Fault::Destination,
+        Fault::Source,
+        Fault::Control,
+        Fault::Protocol,
+        Fault::Long,
+        Fault::Information,
+        Fault::Check,
+        Fault::Flags,
+        Fault::NotWhole,
+        Fault::Offset,
+        Fault::NoData,
+        Fault::Header,
+    ];
 
-const INFORMATION: usize = 6;
+    // The reason that is given for it.
+    fn reason(self) -> Reason {
+        match self {
+            Fault::Short | Fault::Information => Reason::Short,
+            Fault::Destination | Fault::Source => Reason::Address,
+            Fault::Control => Reason::Control,
+            Fault::Protocol => Reason::Protocol,
+            Fault::Long | Fault::NoData => Reason::Size,
+            Fault::Check => Reason::Check,
+            Fault::Flags => Reason::Flags,
+            Fault::NotWhole | Fault::Offset => Reason::NotWhole,
+            Fault::Header => Reason::Header,
+        }
+    }
 
-pub(crate) const CHECK: usize = 7;
+    // Whether frames of a kind can have it.
+    fn is_of(self, kind: Kind) -> bool {
+        match self {
+            Fault::NotWhole | Fault::Offset | Fault::Header => kind == Kind::Entry,
+            Fault::NoData => kind == Kind::Piece,
+            _ => true,
+        }
+    }
 
-pub(crate) const NO_DATA: usize = 11;
+    // Whether it fixes the length of the information.
+    fn is_length(self) -> bool {
+        matches!(self, Fault::Long | Fault::Information | Fault::NoData)
+    }
 
-pub(crate) const HEADER: usize = 12;
-
-// The reason of each fault.
-const REASONS: [u8; 13] = [1, 2, 2, 3, 4, 7, 1, 6, 5, 14, 14, 7, 8];
-
-// Where one byte differs by a fault, and in which bits, before the check is made: a destination in
-// lower case, a source with a low bit set, control 13, the protocol of the other reading; flags with bit 0
-// set, an entry's flags with bit 5 clear, an entry's offset of 1, an entry's number that is not item
-// 01's. The other faults have no such bits.
-const PLACES: [usize; 13] = [0, 0, 7, 14, 15, 0, 0, 0, 16, 16, 21, 0, 17];
-
-const BITS: [u8; 13] = [0, 0x40, 1, 0x10, 6, 0, 0, 0, 1, 0x20, 1, 0, 1];
-
-// The line of a case: each fault with itself, which is that fault alone, and with each that comes later in the order;
-// x where a piece and an entry can have both, p and e where one of them can. Where there are 15 bytes, what lies behind
-// them has no fault; one length of the information is fixed by one fault; and where it is short there is no header.
-pub(crate) fn pair(protocol: u8, c: usize) {
-    let pairs = b"xxxx.........\
-        .xxxxxxxxeepe\
-        ..xxxxxxxeepe\
-        ...xxxxxxeepe\
-        ....xxxxxeepe\
-        .....x.xxee.e\
-        ......xxxee..\
-        .......xxeepe\
-        ........xeepe\
-        .........ee.e\
-        ..........e.e\
-        ...........p.\
-        ............e";
-    let can = octets::byte(pairs, c);
-    if (can == b'x') | (can == own(protocol)) {
-        line(protocol, c / 13, c % 13, frame(protocol, c / 13, c % 13));
+    // Turns over the bits of a frame that differ by it, if any, before the check is made.
+    fn plant(self, frame: &mut [u8]) {
+        match self {
+            Fault::Destination => made::turn(frame, 0, 0x40),
+            Fault::Source => made::turn(frame, 7, 1),
+            Fault::Control => made::turn(frame, 14, 0x10),
+            Fault::Protocol => made::turn(frame, 15, 6),
+            Fault::Flags => made::turn(frame, 16, 1),
+            Fault::NotWhole => made::turn(frame, 16, 0x20),
+            Fault::Offset => made::turn(frame, 21, 1),
+            Fault::Header => made::turn(frame, 17, 1),
+            Fault::Short | Fault::Long | Fault::Information | Fault::Check | Fault::NoData => {}
+        }
     }
 }
 
-// The letter of a pair that frames of one protocol alone can have.
-fn own(protocol: u8) -> u8 {
-    if protocol == ax25::DIRECTORY_PROTOCOL {
-        b'e'
-    } else {
-        b'p'
+// Its name: its reason, with a letter where several have the same.
+impl fmt::Display for Fault {
+    fn fmt<W: fmt::Write>(&self, f: &mut fmt::Formatter<W>) -> fmt::Result {
+        f.write_str(match self {
+            Fault::Short => "1",
+            Fault::Destination => "2",
+            Fault::Source => "2s",
+            Fault::Control => "3",
+            Fault::Protocol => "4",
+            Fault::Long => "7",
+            Fault::Information => "1i",
+            Fault::Check => "6",
+            Fault::Flags => "5",
+            Fault::NotWhole => "14",
+            Fault::Offset => "14o",
+            Fault::NoData => "7n",
+            Fault::Header => "8",
+        })
     }
 }
 
-// The line of a frame's first 16 bytes with one fault, where there are no more.
-pub(crate) fn head(protocol: u8, fault: usize) {
-    line(
-        protocol,
-        fault,
-        fault,
-        made::cut(frame(protocol, fault, fault), 16),
-    );
+// The lines of each fault with itself, which is that fault alone, and with each that comes later in the order.
+pub(crate) fn pairs(rt: &impl Print, alloc: Global, kind: Kind) -> io::Result<()> {
+    println!(rt; "Faults: {kind}")?;
+    for first in Fault::ALL {
+        for second in Fault::ALL {
+            let f = Planted { first, second };
+            if possible(kind, f) {
+                line(rt, kind, f, &frame(alloc, kind, f)?)?;
+            }
+        }
+    }
+    Ok(())
+}
+
+// Whether frames of a kind can have both faults. Where there are 15 bytes, what lies behind them has no fault; one length
+// of the information is fixed by one fault; and where it is short there is no header.
+fn possible(kind: Kind, f: Planted<Fault>) -> bool {
+    let Planted { first, second } = f;
+    if !(first.is_of(kind) && second.is_of(kind)) {
+        return false;
+    }
+    first == second
+        || first < second
+            && (first != Fault::Short || second < Fault::Protocol)
+            && !(first.is_length() && second.is_length())
+            && !(first == Fault::Information && second == Fault::Header)
+}
+
+// The lines of a frame's first 16 bytes with one fault, where there are no more.
+pub(crate) fn heads(rt: &impl Print, alloc: Global, kind: Kind) -> io::Result<()> {
+    println!(rt; "Faults of 16 bytes: {kind}")?;
+    for fault in [
+        Fault::Destination,
+        Fault::Source,
+        Fault::Control,
+        Fault::Protocol,
+    ] {
+        let f = alone(fault);
+        line(rt, kind, f, made::first(&frame(alloc, kind, f)?, 16))?;
+    }
+    Ok(())
+}
+
+// One fault alone.
+pub(crate) fn alone(fault: Fault) -> Planted<Fault> {
+    Planted {
+        first: fault,
+        second: fault,
+    }
 }
 
 // The line of a frame with two faults: their names, the answer, and a question mark where it is not the first's reason.
-fn line(protocol: u8, first: usize, second: usize, frame: Bytes) {
-    names(protocol, first, second);
-    let answer = answers::answer(protocol, frame);
-    say::outcome(answer);
-    if answer != reason(first) {
-        say::text(b" ?");
-    }
-    say::newline();
-}
-
-// The start of a line: the faults' names.
-fn names(protocol: u8, first: usize, second: usize) {
-    answers::kind(protocol);
-    name(first);
+fn line(rt: &impl Print, kind: Kind, f: Planted<Fault>, frame: &[u8]) -> io::Result<()> {
+    let Planted { first, second } = f;
+    print!(rt; "{kind} {first}")?;
     if first != second {
-        name(second);
+        print!(rt; " {second}")?;
     }
-}
-
-// The name of a fault: its reason, with a letter where several have the same.
-pub(crate) fn name(fault: usize) {
-    say::word(b" 1/ 2/ 2s/ 3/ 4/ 7/ 1i/ 6/ 5/ 14/ 14o/ 7n/ 8/", fault);
-}
-
-// The reason of a fault.
-fn reason(fault: usize) -> u8 {
-    let reasons = REASONS;
-    reasons[fault % 13]
-}
-
-// The frame with the faults, one of them twice where it has only one.
-pub(crate) fn frame(protocol: u8, first: usize, second: usize) -> Bytes {
-    let once = changed(of_size(protocol, of_length(first, second)), first);
-    let both = if first == second {
-        once
+    let answer = kind.answer(frame);
+    let mark = if answer == Err(first.reason()) {
+        ""
     } else {
-        changed(once, second)
+        " ?"
     };
-    closed(both, first, second)
+    println!(rt; ": {}{mark}", Answer(answer))
 }
 
-// The fault of the two that can be one of the length.
-fn of_length(first: usize, second: usize) -> usize {
-    if (second == LONG) | (second == INFORMATION) | (second == NO_DATA) {
-        second
+// The frame with the faults.
+pub(crate) fn frame(alloc: Global, kind: Kind, f: Planted<Fault>) -> Result<Vec<u8>, AllocError> {
+    let mut frame = match kind {
+        Kind::Piece => piece(alloc, f)?,
+        Kind::Entry => entry(alloc, f)?,
+    };
+    f.first.plant(&mut frame);
+    if f.first != f.second {
+        f.second.plant(&mut frame);
+    }
+    let mut frame = bases::closed(frame, f.choice(Fault::Check, 0, 1))?;
+    if f.has(Fault::Short) {
+        frame.truncate(15);
+    }
+    Ok(frame)
+}
+
+// A piece with no fault but one of its length, without its check.
+fn piece(alloc: Global, f: Planted<Fault>) -> Result<Vec<u8>, AllocError> {
+    let n = if f.has(Fault::Long) {
+        245
+    } else if f.has(Fault::Information) || f.has(Fault::NoData) {
+        0
     } else {
-        first
+        4
+    };
+    let mut frame = bases::piece(alloc, n)?;
+    if f.has(Fault::Information) {
+        frame.truncate(24);
     }
+    Ok(frame)
 }
 
-// A frame with its check, and with the faults that come behind it: the last check byte wrong, and only
-// the first 15 bytes.
-fn closed(open: Bytes, first: usize, second: usize) -> Bytes {
-    if first == SHORT {
-        return made::cut(open, 15);
-    }
-    bases::closed(open, ((first == CHECK) | (second == CHECK)) as u16)
-}
-
-// A frame with the bits of a fault.
-fn changed(frame: Bytes, fault: usize) -> Bytes {
-    let places = PLACES;
-    let bits = BITS;
-    let mut bytes = frame.bytes;
-    let size = frame.size;
-    made::turn(&mut bytes, places[fault % 13], bits[fault % 13]);
-    Bytes { bytes, size }
-}
-
-// The frame with no fault but one of its length, without its check.
-fn of_size(protocol: u8, fault: usize) -> Bytes {
-    if protocol == ax25::DIRECTORY_PROTOCOL {
-        entry(fault)
+// An entry with no fault but one of its length, without its check.
+fn entry(alloc: Global, f: Planted<Fault>) -> Result<Vec<u8>, AllocError> {
+    let mut frame = if f.has(Fault::Long) {
+        bases::long_entry(alloc)?
     } else {
-        piece(fault)
+        bases::entry(alloc)?
+    };
+    if f.has(Fault::Information) {
+        frame.truncate(32);
     }
-}
-
-// A piece with no fault but one of its length.
-fn piece(fault: usize) -> Bytes {
-    match fault {
-        LONG => bases::piece(245),
-        INFORMATION => made::cut(bases::piece(0), 24),
-        NO_DATA => bases::piece(0),
-        _ => bases::piece(4),
-    }
-}
-
-// An entry with no fault but one of its length.
-fn entry(fault: usize) -> Bytes {
-    match fault {
-        LONG => bases::long_entry(256),
-        INFORMATION => made::cut(bases::entry(), 32),
-        _ => bases::entry(),
-    }
+    Ok(frame)
 }

@@ -1,24 +1,29 @@
-// All flag bytes of a piece and of an entry, each with its answer, 16 to a line.
-use crate::{answers, bases};
-use program_tools::{made, say};
+// All flag bytes of a piece or an entry, each with its answer, 16 to a line.
+use crate::bases;
+use crate::kinds::Kind;
+use std::alloc::Global;
+use std::io;
 
-// What is answered for one flag byte, and the start and the end of its line.
-pub(crate) fn value(protocol: u8, c: usize) {
-    let run = [(c % 256) as u8];
-    if c % 16 == 0 {
-        start(run[0]);
+// The table.
+pub(crate) fn all(rt: &impl Print, alloc: Global, kind: Kind) -> io::Result<()> {
+    println!(rt; "Flags, 16 to a line, 0 for accepted: {kind}")?;
+    for flags in 0..=u8::MAX {
+        value(rt, alloc, kind, flags)?;
     }
-    let frame = made::with(bases::base(protocol), 16, &run);
-    say::space();
-    say::number(answers::answer(protocol, bases::checked(frame)) as u64);
-    if c % 16 == 15 {
-        say::newline();
-    }
+    Ok(())
 }
 
-// The start of a line of flag bytes.
-fn start(flags: u8) {
-    say::text(b"flags ");
-    say::hex(flags);
-    say::letter(b':');
+// What is answered for one flag byte, and the start and the end of its line.
+fn value(rt: &impl Print, alloc: Global, kind: Kind, flags: u8) -> io::Result<()> {
+    let mut frame = bases::base(alloc, kind)?;
+    octets::put(&mut frame, ax25::HEAD_LENGTH, &[flags]);
+    let refused = kind.answer(&bases::checked(frame)?).err();
+    if flags % 16 == 0 {
+        print!(rt; "flags {flags:02X}:")?;
+    }
+    print!(rt; " {}", refused.map_or(0, u8::from))?;
+    if flags % 16 == 15 {
+        println!(rt)?;
+    }
+    Ok(())
 }

@@ -1,93 +1,65 @@
 // What is handed out of a frame: of a piece its bytes and its fields, of an entry its header's bytes;
 // of the bytes how many, the first and the last, and none of a refused frame.
-use crate::{answers, bases, faults};
-use frame::PieceRead;
-use program_tools::made::Bytes;
-use program_tools::{made, say};
+use crate::faults::Fault;
+use crate::kinds::Kind;
+use crate::{bases, faults};
+use frame::Piece;
+use std::alloc::Global;
+use std::io;
 
-// How many bytes the accepted pieces have, and the number of the accepted entry, behind which come its refused ones.
-const SIZES: [u8; 4] = [1, 2, 243, 244];
-
-const ENTRY: usize = 7;
-
-// The faults of the refused frames, each at the number of its case.
-const FAULTS: [usize; 10] = [
-    0,
-    0,
-    0,
-    0,
-    faults::CHECK,
-    faults::NO_DATA,
-    faults::SHORT,
-    0,
-    faults::CHECK,
-    faults::HEADER,
-];
-
-// The line of a case: pieces of 1, 2, 243 and 244 bytes and refused ones, the entry of the figure and refused ones.
-pub(crate) fn case(protocol: u8, c: usize) {
-    let sizes = SIZES;
-    let faults = FAULTS;
-    if c < 4 {
-        accepted(sizes[c]);
-        return;
+// Pieces of 1, 2, 243 and 244 bytes, and refused ones.
+pub(crate) fn pieces(rt: &impl Print, alloc: Global) -> io::Result<()> {
+    println!(rt; "Bytes handed out: {}", Kind::Piece)?;
+    for n in [1, 2, 243, 244] {
+        print!(rt; "piece of {n}")?;
+        end(rt, Kind::Piece, &bases::checked(bases::piece(alloc, n)?)?)?;
     }
-    answers::kind(protocol);
-    if c == ENTRY {
-        handed(protocol, bases::checked(bases::entry()));
-    } else {
-        refused(protocol, faults[c % 10]);
+    for fault in [Fault::Check, Fault::NoData, Fault::Short] {
+        refused(rt, alloc, Kind::Piece, fault)?;
     }
+    Ok(())
 }
 
-// The line of a piece of n bytes.
-fn accepted(n: u8) {
-    say::named(b"piece of ", n as u64);
-    handed(ax25::FILE_PROTOCOL, bases::checked(bases::piece(n)));
-}
-
-// The rest of a line of a frame with a fault.
-fn refused(protocol: u8, fault: usize) {
-    say::text(b" with fault");
-    faults::name(fault);
-    handed(protocol, faults::frame(protocol, fault, fault));
-}
-
-// The rest of a line: the bytes that are handed out.
-fn handed(protocol: u8, frame: Bytes) {
-    let bytes = frame.bytes;
-    let all = made::first(&bytes, frame.size);
-    if protocol == ax25::DIRECTORY_PROTOCOL {
-        counted(frame::header_bytes(all));
-    } else {
-        counted(frame::piece_bytes(all));
+// The entry of the figure, and refused ones.
+pub(crate) fn entries(rt: &impl Print, alloc: Global) -> io::Result<()> {
+    println!(rt; "Bytes handed out: {}", Kind::Entry)?;
+    print!(rt; "entry")?;
+    end(rt, Kind::Entry, &bases::checked(bases::entry(alloc)?)?)?;
+    for fault in [Fault::Check, Fault::Header] {
+        refused(rt, alloc, Kind::Entry, fault)?;
     }
+    Ok(())
 }
 
-// How many bytes, the first and the last.
-fn counted(s: &[u8]) {
-    say::named(b": bytes ", s.len() as u64);
-    if s.len() > 0 {
-        say::text(b", first and last");
-        say::bytes(made::first(s, 1));
-        say::bytes(made::behind(s, s.len() - 1));
+// The line of a frame with a fault.
+fn refused(rt: &impl Print, alloc: Global, kind: Kind, fault: Fault) -> io::Result<()> {
+    print!(rt; "{kind} with fault {fault}")?;
+    end(rt, kind, &faults::frame(alloc, kind, faults::alone(fault))?)
+}
+
+// The rest of a line: how many bytes are handed out, the first and the last.
+fn end(rt: &impl Print, kind: Kind, frame: &[u8]) -> io::Result<()> {
+    let handed = kind.handed(frame);
+    print!(rt; ": bytes {}", handed.len())?;
+    if let (Some(first), Some(last)) = (handed.first(), handed.last()) {
+        print!(rt; ", first and last {first:02X} {last:02X}")?;
     }
-    say::newline();
+    println!(rt)
 }
 
 // The fields of a piece of type 5 with number 01020304 and offset 060708: a heading and a line for each, and none where
 // it is refused.
-pub(crate) fn of_fields() {
-    let frame = made::with(bases::piece(4), 17, b"\x04\x03\x02\x01\x05\x08\x07\x06");
-    let checked = bases::checked(frame);
-    let bytes = checked.bytes;
-    match frame::read_piece(made::first(&bytes, checked.size)) {
-        PieceRead::Accepted(piece) => say::told(
-            b"Number, type and offset of a piece\n#\n#\n#\n",
-            piece.number,
-            piece.kind as u32,
-            piece.offset,
-        ),
-        PieceRead::Refused(_) => {}
+pub(crate) fn fields(rt: &impl Print, alloc: Global) -> io::Result<()> {
+    let mut frame = bases::piece(alloc, 4)?;
+    octets::put(&mut frame, 17, b"\x04\x03\x02\x01\x05\x08\x07\x06");
+    if let Ok(piece) = frame::read_piece(&bases::checked(frame)?) {
+        let Piece {
+            number,
+            kind,
+            offset,
+            ..
+        } = piece;
+        println!(rt; "Number, type and offset of a piece\n{number}\n{kind}\n{offset}")?;
     }
+    Ok(())
 }

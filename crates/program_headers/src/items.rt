@@ -1,125 +1,98 @@
 // Headers made from the items of the figure: with one item changed, in reverse order, and with other
 // items behind them. Item 0B is the header's length and item 0A the sum.
-use crate::{figure, runs};
+use crate::figure;
+use crate::figure::Item;
 use program_tools::made;
-use program_tools::made::Bytes;
-
-// Which of the 12 items are 0A and 0B.
-const SUM: usize = 10;
-
-const BODY: usize = 11;
+use std::alloc::{AllocError, Global};
 
 // What can stand for an item: nothing, the item itself, the item with one byte of data more or less,
 // or one of its id and length whose data are zeros.
-pub(crate) const NOTHING: u8 = 0;
-
-pub(crate) const SAME: u8 = 1;
-
-pub(crate) const LONGER: u8 = 2;
-
-pub(crate) const SHORTER: u8 = 3;
-
-pub(crate) const ZEROS: u8 = 4;
-
-// The change of a header: the item that it falls on, the two parts that stand for it, and whether the items are in
-// reverse order.
-#[derive(Clone, Copy)]
-pub(crate) struct Change {
-    pub(crate) item: usize,
-    pub(crate) first: u8,
-    pub(crate) second: u8,
-    pub(crate) reversed: bool,
+#[derive(Clone, Copy, Debug, PartialEq, Eq)]
+pub(crate) enum Part {
+    Nothing,
+    Same,
+    Longer,
+    Shorter,
+    Zeros,
 }
 
-// The header with one item changed.
-pub(crate) fn changed(change: Change) -> Bytes {
-    header(change, runs::of(b"\0\0\0"))
+// How the figure's items stand in a header: as they are, in reverse order, or with two parts for one of them.
+#[derive(Clone, Copy, Debug, PartialEq, Eq)]
+pub(crate) enum Items {
+    Same,
+    Reversed,
+    Changed(Item, Part, Part),
 }
 
-// The figure's items, and behind them the last bytes of a header.
-pub(crate) fn ending(tail: Bytes) -> Bytes {
-    header(
-        Change {
-            item: 0,
-            first: SAME,
-            second: NOTHING,
-            reversed: false,
-        },
-        tail,
-    )
-}
-
-// A header with the change, whose last bytes are those of `tail`: other items and the end item.
-fn header(change: Change, tail: Bytes) -> Bytes {
-    let open = items(change, tail, 0, 0);
-    let body = (open.size % 65536) as u16;
-    let sum = runs::sum(items(change, tail, 0, body));
-    items(change, tail, sum, body)
+// A header of the items, whose last bytes are those of `tail`: other items and the end item.
+pub(crate) fn header(alloc: Global, items: Items, tail: &[u8]) -> Result<Vec<u8>, AllocError> {
+    let open = valued(alloc, items, tail, [0; 2], [0; 2])?;
+    let body = octets::bytes::<2>(open.len() as u64);
+    let sum = figure::sum(&valued(alloc, items, tail, [0; 2], body)?);
+    valued(alloc, items, tail, sum.to_le_bytes(), body)
 }
 
 // The same with the values of items 0A and 0B given.
-fn items(change: Change, tail: Bytes, sum: u16, body: u16) -> Bytes {
-    runs::and_made(all(runs::of(b"\xAA\x55"), change, sum, body), tail)
-}
-
-// All items behind what stands before them.
-fn all(start: Bytes, change: Change, sum: u16, body: u16) -> Bytes {
-    let mut m = start;
-    for k in 0..12 {
-        m = and_item(m, k, change, sum, body);
+fn valued(
+    alloc: Global,
+    items: Items,
+    tail: &[u8],
+    sum: [u8; 2],
+    body: [u8; 2],
+) -> Result<Vec<u8>, AllocError> {
+    let mut header = Vec::new(alloc);
+    header.extend_from_slice(b"\xAA\x55")?;
+    let mut all = Item::ALL;
+    if items == Items::Reversed {
+        all.reverse();
     }
-    m
-}
-
-// Which item stands at the place k.
-fn placed(reversed: bool, k: usize) -> usize {
-    if reversed { 11 - k % 12 } else { k }
-}
-
-// One item more, the one at the place k, changed where the change falls on it.
-fn and_item(m: Bytes, k: usize, change: Change, sum: u16, body: u16) -> Bytes {
-    let at = placed(change.reversed, k);
-    let item = item(at, sum, body);
-    if at != change.item {
-        return runs::and_made(m, item);
+    for item in all {
+        let bytes = item_bytes(alloc, item, sum, body)?;
+        match items {
+            Items::Changed(changed, first, second) if changed == item => {
+                stand(&mut header, &bytes, first)?;
+                stand(&mut header, &bytes, second)?;
+            }
+            _ => header.extend_from_slice(&bytes)?,
+        }
     }
-    runs::and_made(
-        runs::and_made(m, standing(item, change.first)),
-        standing(item, change.second),
-    )
-}
-
-// A part that stands for an item.
-fn standing(item: Bytes, part: u8) -> Bytes {
-    let n = less(item.size, 3);
-    match part {
-        NOTHING => made::cut(item, 0),
-        LONGER => resized(item, n % 256 + 1),
-        SHORTER => resized(item, less(n, 1)),
-        ZEROS => runs::and_same(made::cut(item, 3), n, 0),
-        _ => item,
-    }
-}
-
-// A number less another, 0 where it is not so large.
-fn less(n: usize, by: usize) -> usize {
-    if n < by { 0 } else { n - by }
-}
-
-// An item with n bytes of data: zeros stand behind an item.
-fn resized(item: Bytes, n: usize) -> Bytes {
-    let length = [(n % 256) as u8];
-    made::cut(made::with(item, 2, &length), n % 256 + 3)
+    header.extend_from_slice(tail)?;
+    Ok(header)
 }
 
 // An item of the figure, of items 0A and 0B with the values.
-fn item(k: usize, sum: u16, body: u16) -> Bytes {
-    let item = figure::item(k);
-    if k == SUM {
-        return runs::with_number(item, 3, sum);
+fn item_bytes(
+    alloc: Global,
+    item: Item,
+    sum: [u8; 2],
+    body: [u8; 2],
+) -> Result<Vec<u8>, AllocError> {
+    let mut bytes = item.bytes().to_vec(alloc)?;
+    if item.id == 0x0A {
+        octets::put(&mut bytes, 3, &sum);
     }
-    if k == BODY {
-        return runs::with_number(item, 3, body);
+    if item.id == 0x0B {
+        octets::put(&mut bytes, 3, &body);
     }
-    item
+    Ok(bytes)
+}
+
+// A part that stands for an item, behind what there is of a header.
+fn stand(header: &mut Vec<u8>, item: &[u8], part: Part) -> Result<(), AllocError> {
+    let size = octets::byte(item, 2);
+    match part {
+        Part::Nothing => Ok(()),
+        Part::Same => header.extend_from_slice(item),
+        Part::Longer => resized(header, item, size.saturating_add(1)),
+        Part::Shorter => resized(header, item, size.saturating_sub(1)),
+        Part::Zeros => resized(header, made::first(item, 2), size),
+    }
+}
+
+// An item with n bytes of data, behind what there is of a header: zeros stand behind its own.
+fn resized(header: &mut Vec<u8>, item: &[u8], n: u8) -> Result<(), AllocError> {
+    header.extend_from_slice(made::first(item, 2))?;
+    header.push(n)?;
+    let data = made::behind(item, 3).iter().copied();
+    header.extend(data.chain(std::iter::repeat(0)).take(usize::from(n)))
 }

@@ -1,22 +1,28 @@
 // Headers with bytes behind them, which are not looked at, and headers that are cut.
-use crate::{answers, figure, runs};
-use program_tools::{made, say};
+use crate::answers;
+use crate::figure::HEADER;
+use program_tools::made;
+use std::alloc::Global;
+use std::io;
 
-// How many bytes stand behind a header.
-const TIMES: [usize; 4] = [1, 2, 3, 40];
-
-// The line of a case: the header with 1, 2, 3 and 40 bytes behind it, all 00 or all FF.
-pub(crate) fn longer(c: usize) {
-    let times = TIMES;
-    let n = times[c % 4];
-    let b = (c / 4 % 2 * 0xFF) as u8;
-    say::hex(b);
-    say::named(b" x ", n as u64);
-    answers::end(runs::and_same(figure::header(), n, b));
+// The lines of the header with 1, 2, 3 and 40 bytes behind it, all 00 or all FF.
+pub(crate) fn longer(rt: &impl Print, alloc: Global) -> io::Result<()> {
+    for byte in [0x00, 0xFF] {
+        for n in [1, 2, 3, 40] {
+            print!(rt; "{byte:02X} x {n}")?;
+            let mut header = HEADER.to_vec(alloc)?;
+            header.resize(80 + n, byte)?;
+            answers::end(rt, &header)?;
+        }
+    }
+    Ok(())
 }
 
-// The line of the first n bytes of the header, which has 80.
-pub(crate) fn cut(n: usize) {
-    say::named(b"first ", n as u64);
-    answers::end(made::cut(figure::header(), n));
+// The lines of the first bytes of the header, from none to all.
+pub(crate) fn cut(rt: &impl Print) -> io::Result<()> {
+    for n in 0..=80 {
+        print!(rt; "first {n}")?;
+        answers::end(rt, made::first(&HEADER, n))?;
+    }
+    Ok(())
 }

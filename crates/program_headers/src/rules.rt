@@ -1,169 +1,201 @@
 // The rules of a header: each broken, and what they allow.
-use crate::items::Change;
-use crate::{answers, figure, items, runs};
-use program_tools::made::Bytes;
-use program_tools::{made, say};
+use crate::figure::{HEADER, Item, SUM};
+use crate::items::{Items, Part};
+use crate::{answers, figure, items};
+use program_tools::show::Hex;
+use std::alloc::{AllocError, Global};
+use std::io;
 
-// Markers of which each byte is wrong, and the two exchanged, low byte first.
-const MARKERS: [u16; 3] = [0x55AB, 0x54AA, 0xAA55];
+// The last bytes of a header: the end item.
+const END: [u8; 3] = [0, 0, 0];
 
-// The two parts that stand for an item in each of eight changes: left out, twice, one byte longer or shorter, the right
-// one with another behind it that is longer or shorter, and of two the first or the second zeros.
-const FIRSTS: [u8; 8] = [
-    items::NOTHING,
-    items::SAME,
-    items::LONGER,
-    items::SHORTER,
-    items::SAME,
-    items::SAME,
-    items::ZEROS,
-    items::SAME,
+// Markers of which each byte is wrong, and the two exchanged.
+const MARKERS: [[u8; 2]; 3] = [[0xAB, 0x55], [0xAA, 0x54], [0x55, 0xAA]];
+
+// A change of an item: its name, and the two parts that stand for the item.
+struct Change {
+    name: &'static str,
+    first: Part,
+    second: Part,
+}
+
+// The changes of each item: left out, twice, one byte longer or shorter, and the right one with another behind it that is
+// longer or shorter.
+const CHANGES: [Change; 6] = [
+    Change {
+        name: "left out",
+        first: Part::Nothing,
+        second: Part::Nothing,
+    },
+    Change {
+        name: "twice",
+        first: Part::Same,
+        second: Part::Same,
+    },
+    Change {
+        name: "longer by 1",
+        first: Part::Longer,
+        second: Part::Nothing,
+    },
+    Change {
+        name: "shorter by 1",
+        first: Part::Shorter,
+        second: Part::Nothing,
+    },
+    Change {
+        name: "and one longer by 1",
+        first: Part::Same,
+        second: Part::Longer,
+    },
+    Change {
+        name: "and one shorter by 1",
+        first: Part::Same,
+        second: Part::Shorter,
+    },
 ];
 
-const SECONDS: [u8; 8] = [
-    items::NOTHING,
-    items::SAME,
-    items::NOTHING,
-    items::NOTHING,
-    items::LONGER,
-    items::SHORTER,
-    items::SAME,
-    items::ZEROS,
+// Those of item 0A alone: of two the first or the second zeros.
+const SUM_CHANGES: [Change; 2] = [
+    Change {
+        name: "of 0 and item 0A",
+        first: Part::Zeros,
+        second: Part::Same,
+    },
+    Change {
+        name: "and item 0A of 0",
+        first: Part::Same,
+        second: Part::Zeros,
+    },
 ];
 
 // Items of other ids, which may have any length: id and length.
-const OTHERS: [u32; 7] = [
-    0x003000, 0x003001, 0x003005, 0x010104, 0x010A02, 0x120004, 0x010000,
+const OTHERS: [(u16, u8); 7] = [
+    (0x0030, 0),
+    (0x0030, 1),
+    (0x0030, 5),
+    (0x0101, 4),
+    (0x010A, 2),
+    (0x1200, 4),
+    (0x0100, 0),
+];
+
+// The last bytes of a header: an end item of length 1, as the last item and before it; two items 30; and an item 30 that
+// runs past the end, with no end item.
+const TAILS: [&[u8]; 4] = [
+    b"\0\0\x01\0",
+    b"\0\0\x01\0\0\0\0",
+    b"\x30\0\x05\0\0\0\0\0\x30\0\x05\0\0\0\0\0\0\0\0",
+    b"\x30\0\x05\0\0",
 ];
 
 // Another byte for each of the four bytes of item 01, which is the number.
 const NUMBERS: [u8; 4] = [0x66, 0xAF, 0x01, 0x01];
 
-// Item 0B on both sides of the header's length, 0050, and of item 04, 06E0; and item 0A one too high, the plain sum of
-// all bytes of the header, and the right sum high byte first.
-const VALUES: [u16; 7] = [0x004F, 0x0050, 0x06E0, 0x06E1, 0x0C85, 0x0D14, 0x840C];
+// Item 0B on both sides of the header's length, 0050, and of item 04, 06E0.
+const BODIES: [u16; 4] = [0x004F, 0x0050, 0x06E0, 0x06E1];
 
-// The line of a header with another marker.
-pub(crate) fn marker(c: usize) {
-    let markers = MARKERS;
-    let marker = octets::bytes2(markers[c % 3]);
-    say::text(b"marker");
-    say::bytes(&marker);
-    answers::end(figure::with(0, &marker));
+// Item 0A one too high, the plain sum of all bytes of the header, and the right sum high byte first.
+const SUMS: [u16; 3] = [0x0C85, 0x0D14, 0x840C];
+
+// All lines: headers with another marker, with other items, and with other values in their items.
+pub(crate) fn all(rt: &impl Print, alloc: Global) -> io::Result<()> {
+    for marker in MARKERS {
+        print!(rt; "marker{}", Hex(&marker))?;
+        answers::end(rt, &figure::with(0, &marker))?;
+    }
+    changed(rt, alloc)?;
+    others(rt, alloc)?;
+    ends(rt, alloc)?;
+    values(rt)?;
+    large_sums(rt, alloc)
 }
 
-// The line of a case: each of eight changes of each of the 12 items. The last two are tried with item 0A.
-pub(crate) fn change(c: usize) {
-    let firsts = FIRSTS;
-    let seconds = SECONDS;
-    let change = Change {
-        item: c % 12,
-        first: firsts[c / 12 % 8],
-        second: seconds[c / 12 % 8],
-        reversed: false,
-    };
-    say::text(b"item ");
-    say::hex(figure::id(c));
-    say::word(
-        b" left out/ twice/ longer by 1/ shorter by 1/ and one longer by 1/ and one shorter by 1/ \
-            of 0 and item 0A/ and item 0A of 0/",
-        c / 12,
-    );
-    answers::end(items::changed(change));
+// Each item changed, and then item 0A in two ways more.
+fn changed(rt: &impl Print, alloc: Global) -> io::Result<()> {
+    for change in &CHANGES {
+        for item in Item::ALL {
+            line(rt, alloc, item, change)?;
+        }
+    }
+    for change in &SUM_CHANGES {
+        line(rt, alloc, Item::ALL[10], change)?;
+    }
+    Ok(())
 }
 
-// The line of a header with an item of another id, whose data are zeros.
-pub(crate) fn other(c: usize) {
-    let others = OTHERS;
-    let other = others[c % 7];
-    let id = (other / 256 % 65536) as u16;
-    let length = (other % 256) as u8;
-    say::text(b"item ");
-    answers::hex2(id);
-    say::named(b" of length ", length as u64);
-    answers::end(items::ending(ended(id, length)));
+// The line of a change of an item.
+fn line(rt: &impl Print, alloc: Global, item: Item, change: &Change) -> io::Result<()> {
+    print!(rt; "item {:02X} {}", item.id, change.name)?;
+    let items = Items::Changed(item, change.first, change.second);
+    answers::end(rt, &items::header(alloc, items, &END)?)
+}
+
+// Items of other ids, whose data are zeros.
+fn others(rt: &impl Print, alloc: Global) -> io::Result<()> {
+    for (id, length) in OTHERS {
+        print!(rt; "item {id:04X} of length {length}")?;
+        let tail = other(alloc, id, length)?;
+        answers::end(rt, &items::header(alloc, Items::Same, &tail)?)?;
+    }
+    Ok(())
 }
 
 // Such an item and the end item.
-fn ended(id: u16, length: u8) -> Bytes {
-    let run = [length];
-    let item = made::with(runs::with_number(runs::of(b""), 0, id), 2, &run);
-    made::cut(item, (length as usize) + 6)
+fn other(alloc: Global, id: u16, length: u8) -> Result<Vec<u8>, AllocError> {
+    let mut tail = id.to_le_bytes().to_vec(alloc)?;
+    tail.push(length)?;
+    tail.resize(usize::from(length) + 3, 0)?;
+    tail.extend_from_slice(&END)?;
+    Ok(tail)
 }
 
-// An end item of length 1, as the last item and before it; two items 30; an item 30 that runs past
-// the end, with no end item; and the items in reverse order.
-pub(crate) fn ends() {
-    ending(b"\0\0\x01\0");
-    ending(b"\0\0\x01\0\0\0\0");
-    ending(b"\x30\0\x05\0\0\0\0\0\x30\0\x05\0\0\0\0\0\0\0\0");
-    ending(b"\x30\0\x05\0\0");
-    reverse();
-}
-
-// The line of a header with its last bytes behind the figure's items.
-fn ending(tail: &[u8]) {
-    say::text(b"items, then");
-    say::bytes(tail);
-    answers::end(items::ending(runs::of(tail)));
-}
-
-// The line of the items in reverse order.
-fn reverse() {
-    let change = Change {
-        item: 0,
-        first: items::SAME,
-        second: items::NOTHING,
-        reversed: true,
-    };
-    answers::line(b"items in reverse order", items::changed(change));
-}
-
-// The line of a header with another byte of item 01.
-pub(crate) fn number(c: usize) {
-    let numbers = NUMBERS;
-    let run = [numbers[c % 4]];
-    say::named(b"item 01 different in byte ", c as u64);
-    answers::end(figure::with(5 + c % 4, &run));
-}
-
-// The line of a header with another item 0B, or with the figure's and another item 0A.
-pub(crate) fn value(c: usize) {
-    let values = VALUES;
-    let v = values[c % 7];
-    let run = octets::bytes2(v);
-    say::word(b"item 0B at /item 0A at /", (c > 3) as usize);
-    answers::hex2(v);
-    answers::end(valued(c > 3, &run));
-}
-
-// The figure's header with another item 0A, or a header with another item 0B.
-fn valued(sum: bool, run: &[u8]) -> Bytes {
-    if sum {
-        made::with(figure::header(), 70, run)
-    } else {
-        figure::with(75, run)
+// Other last bytes behind the figure's items, and the items in reverse order.
+fn ends(rt: &impl Print, alloc: Global) -> io::Result<()> {
+    for tail in TAILS {
+        print!(rt; "items, then{}", Hex(tail))?;
+        answers::end(rt, &items::header(alloc, Items::Same, tail)?)?;
     }
+    print!(rt; "items in reverse order")?;
+    answers::end(rt, &items::header(alloc, Items::Reversed, &END)?)
 }
 
-// The line of an item 04 beyond 16 bits.
-pub(crate) fn long_file() {
-    answers::line(b"item 04 at 00010000", figure::with(29, b"\0\0\x01\0"));
+// Other values of items 01, 0B, 04 and 0A: that of item 04 is beyond 16 bits.
+fn values(rt: &impl Print) -> io::Result<()> {
+    for (at, byte) in NUMBERS.iter().enumerate() {
+        print!(rt; "item 01 different in byte {at}")?;
+        answers::end(rt, &figure::with(5 + at, &[*byte]))?;
+    }
+    for body in BODIES {
+        print!(rt; "item 0B at {body:04X}")?;
+        answers::end(rt, &figure::with(75, &body.to_le_bytes()))?;
+    }
+    print!(rt; "item 04 at 00010000")?;
+    answers::end(rt, &figure::with(29, b"\0\0\x01\0"))?;
+    for sum in SUMS {
+        print!(rt; "item 0A at {sum:04X}")?;
+        let mut header = HEADER;
+        octets::put(&mut header, SUM, &sum.to_le_bytes());
+        answers::end(rt, &header)?;
+    }
+    Ok(())
 }
 
 // A sum beyond 65,535, of which item 0A is the low 16 bits, and those and 1 more.
-pub(crate) fn large_sums() {
-    let header = items::ending(large());
-    answers::line(b"sum beyond 65535", header);
-    answers::line(
-        b"sum beyond 65535, item 0A one more",
-        runs::with_number(header, 70, 0x8C6A),
-    );
+fn large_sums(rt: &impl Print, alloc: Global) -> io::Result<()> {
+    let mut header = items::header(alloc, Items::Same, &large(alloc)?)?;
+    print!(rt; "sum beyond 65535")?;
+    answers::end(rt, &header)?;
+    octets::put(&mut header, SUM, b"\x6A\x8C");
+    print!(rt; "sum beyond 65535, item 0A one more")?;
+    answers::end(rt, &header)
 }
 
 // Two items 30 of 255 bytes each, FF and 80, and the end item.
-fn large() -> Bytes {
-    let first = runs::and_same(runs::of(b"\x30\0\xFF"), 255, 0xFF);
-    let second = runs::and_same(runs::and(first, b"\x30\0\xFF"), 255, 0x80);
-    runs::and(second, b"\0\0\0")
+fn large(alloc: Global) -> Result<Vec<u8>, AllocError> {
+    let mut tail = b"\x30\0\xFF".to_vec(alloc)?;
+    tail.resize(258, 0xFF)?;
+    tail.extend_from_slice(b"\x30\0\xFF")?;
+    tail.resize(516, 0x80)?;
+    tail.extend_from_slice(&END)?;
+    Ok(tail)
 }

@@ -11,32 +11,44 @@ ghost use Rattle.reception.specs.Reception.{longest};
 ghost use Rattle.record.specs.Record.{record_length};
 ghost use Rattle.report.specs.Reporting.{Reports};
 
+use reason::Reason;
 use record::LARGEST;
-use report::{LONGEST_TEXT, Reported};
-
-// The numbers of standard input and of standard output.
-const STDIN: i32 = 0;
-
-const STDOUT: i32 = 1;
+use report::LONGEST_TEXT;
+use std::io::Read;
 
 // One byte more than the largest record has, so that a byte too many is noticed.
 const INPUT: usize = LARGEST + 1;
 
 // Reads standard input to its end, or to one byte more than the largest record has, and writes the text of
 // it to standard output, both in large blocks.
-pub fn run() {
-    let mut input = [0u8; INPUT];
-    let n = io::read_full(STDIN, &mut input);
-    let mut text = [0u8; LONGEST_TEXT];
-    let Reported::Accepted(size) = report_all(&input, n, &mut text) else {
-        return;
-    };
-    io::write_all(STDOUT, &text[..size]);
+pub fn run(rt: &(impl Input + Print)) {
+    let mut input = [0; INPUT];
+    let n = read_full(rt.reader(), &mut input);
+    let mut text = [0; LONGEST_TEXT];
+    if let Ok(size) = report_all(&input, n, &mut text) {
+        // Where standard output is closed there is nobody to tell.
+        let _ = rt.write_all(&text[..size]);
+    }
+}
+
+// Reads into the first bytes of a space, until it is full or nothing more comes; how many bytes they are.
+// Kept: `read_exact` refuses an input that is shorter than the space, and `read_to_end` takes as much memory as there is input.
+fn read_full(mut reader: impl Read + Drop, space: &mut [u8]) -> usize
+    ensures { result ≤ length space.new }
+{
+    let mut n = 0;
+    while n < space.len() {
+        match reader.read(&mut space[n..]) {
+            Ok(0) | Err(_) => break,
+            Ok(more) => n += more,
+        }
+    }
+    n
 }
 
 // Writes the text of a whole input, of which the first bytes were read: as many as there is space for, or all of
 // it, n bytes. The space is larger than the largest record, so the rest of the input does not matter.
-fn report_all(space: &[u8], n: usize, text: &mut [u8]) -> Reported
+fn report_all(space: &[u8], n: usize, text: &mut [u8]) -> Result<usize, Reason>
     requires { (record_length longest < length space.now) × (n ≤ length space.now) }
     ensures { (input : List ℕ) → take (length space.now) input ≡ take n space.now → Reports input text.old result text.new }
 {

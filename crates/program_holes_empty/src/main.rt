@@ -1,6 +1,6 @@
 // The hole program, on no input at all.
 #![tactic(auto)]
 
-fn main() {
-    program_holes::run();
+fn main(rt: HostRuntime) {
+    program_holes::run(&rt);
 }

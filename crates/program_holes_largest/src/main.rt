@@ -1,6 +1,6 @@
 // The hole program, on the largest record, with 16,384 holes.
 #![tactic(auto)]
 
-fn main() {
-    program_holes::run();
+fn main(rt: HostRuntime) {
+    program_holes::run(&rt);
 }

@@ -1,6 +1,6 @@
 // The hole program, on the largest record with one byte behind it.
 #![tactic(auto)]
 
-fn main() {
-    program_holes::run();
+fn main(rt: HostRuntime) {
+    program_holes::run(&rt);
 }

@@ -1,72 +1,84 @@
 // Holes: all of them from 0 to reason 15, for every length that a file can have and maps of every
 // pattern.
+use crate::patterns::Pattern;
+use crate::spaces::MAP;
 use crate::{patterns, spaces};
-use holes::Listed;
-use program_tools::say;
+use holes::Hole;
+use program_tools::show::Answer;
+use reason::Reason;
+use std::alloc::Global;
+use std::io;
 
-// The holes that were passed: the place behind them, the sums of their starts and of their ends, and the
-// reason at which there were no more, 0 as long as there are.
-#[derive(Clone, Copy)]
-struct Tally {
-    place: u32,
+// The holes that were passed: the sums of their starts and of their ends, and the place behind the last, or the
+// reason at which there were no more.
+#[derive(Clone, Copy, Debug, PartialEq, Eq)]
+struct Passed {
     starts: u32,
     ends: u32,
-    reason: u8,
+    last: Result<u32, Reason>,
 }
 
-// The line of a case: a length that a file can have, one of eight patterns, and spare bits set or clear
-// in turn.
-pub(crate) fn case(c: usize) {
-    listed(spaces::length(c / 8 + 1), c % 8, (c / 8 + c % 8) % 2);
+impl Passed {
+    // The holes with one more, or with the reason.
+    fn with(self, listed: Result<Hole, Reason>) -> Passed {
+        match listed {
+            Ok(hole) => {
+                let end = hole.start.wrapping_add(hole.length);
+                Passed {
+                    starts: self.starts.wrapping_add(hole.start),
+                    ends: self.ends.wrapping_add(end),
+                    last: Ok(end),
+                }
+            }
+            Err(reason) => Passed {
+                last: Err(reason),
+                ..self
+            },
+        }
+    }
 }
 
-// The line of a length and a pattern, with spare bits that are clear where `set` is 0.
-fn listed(length: u32, pattern: usize, set: usize) {
-    let map = patterns::map(length, pattern, set == 1);
-    patterns::named(b"holes of #", length, pattern);
-    let t = passed(length, &map);
-    say::line(
-        b", spare bits clear, sum of starts #, sum of ends #: refused #\n/\
-        , spare bits set, sum of starts #, sum of ends #: refused #\n/",
-        set,
-        t.starts,
-        t.ends,
-        t.reason as u32,
-    );
+// The lines of every length and pattern, with spare bits set or clear in turn.
+pub(crate) fn all(rt: &impl Print, alloc: Global) -> io::Result<()> {
+    for (row, length) in spaces::LENGTHS[1..12].iter().enumerate() {
+        for (column, pattern) in Pattern::ALL.iter().enumerate() {
+            listed(rt, alloc, *length, *pattern, row % 2 != column % 2)?;
+        }
+    }
+    Ok(())
+}
+
+// The line of a length and a pattern, with spare bits set or clear.
+fn listed(
+    rt: &impl Print,
+    alloc: Global,
+    length: u32,
+    pattern: Pattern,
+    set: bool,
+) -> io::Result<()> {
+    let map = patterns::map(alloc, MAP, length, pattern, set)?;
+    let Passed { starts, ends, last } = asked(length, &map);
+    let spare = if set { "set" } else { "clear" };
+    print!(rt; "holes of {length} {pattern}, spare bits {spare}")?;
+    println!(rt;
+        ", sum of starts {starts}, sum of ends {ends}: {}",
+        Answer(last)
+    )
 }
 
 // All holes of a map, each asked from the end of the last, until there are no more: at every other
 // position at most.
-fn passed(length: u32, map: &[u8]) -> Tally {
-    let mut t = Tally {
-        place: 0,
+fn asked(length: u32, map: &[u8]) -> Passed {
+    let mut passed = Passed {
         starts: 0,
         ends: 0,
-        reason: 0,
+        last: Ok(0),
     };
     for _ in 0..length / 2 + 2 {
-        t = next(length, map, t);
+        let Ok(place) = passed.last else {
+            break;
+        };
+        passed = passed.with(holes::list(length, map, place));
     }
-    t
-}
-
-// The holes with one more, or with the reason: then the place is the end of the file.
-fn next(length: u32, map: &[u8], t: Tally) -> Tally {
-    match holes::list(length, map, t.place) {
-        Listed::Accepted(hole) => {
-            let end = std::num::wrapping_add_u32(hole.start, hole.length);
-            Tally {
-                place: end,
-                starts: std::num::wrapping_add_u32(t.starts, hole.start),
-                ends: std::num::wrapping_add_u32(t.ends, end),
-                reason: 0,
-            }
-        }
-        Listed::Refused(reason) => Tally {
-            place: length,
-            starts: t.starts,
-            ends: t.ends,
-            reason,
-        },
-    }
+    passed
 }

@@ -1,76 +1,112 @@
 // Joining with every fault planted alone and with every pair of faults: the first in the order 7, 12, 9,
 // 11 is answered, and no lent byte of either reception changes. The first holds the positions below 12,
 // the second those from 8 to 19, so that 11 is the last that both hold.
-use crate::joins::Join;
-use crate::{joins, patterns, spaces};
-use program_tools::faults::Faults;
-use program_tools::{faults, say};
+use crate::joins::{Join, Side};
+use crate::patterns::Pattern;
+use crate::spaces;
+use program_tools::planted::Planted;
+use reception::File;
+use std::alloc::Global;
+use std::{fmt, io};
 
 // The faults, in the order of their reasons.
-const FIRST_NO_LENGTH: usize = 0;
+#[derive(Clone, Copy, Debug, PartialEq, Eq, PartialOrd, Ord)]
+enum Fault {
+    FirstNoLength,
+    FirstLong,
+    SecondNoLength,
+    SecondLong,
+    FirstMap,
+    FirstBuffer,
+    SecondMap,
+    SecondBuffer,
+    Number,
+    Length,
+    Byte,
+    Nothing,
+}
 
-const FIRST_LONG: usize = 1;
+impl Fault {
+    const ALL: [Fault; 12] = [
+        Fault::FirstNoLength,
+        Fault::FirstLong,
+        Fault::SecondNoLength,
+        Fault::SecondLong,
+        Fault::FirstMap,
+        Fault::FirstBuffer,
+        Fault::SecondMap,
+        Fault::SecondBuffer,
+        Fault::Number,
+        Fault::Length,
+        Fault::Byte,
+        Fault::Nothing,
+    ];
+}
 
-const SECOND_NO_LENGTH: usize = 2;
-
-const SECOND_LONG: usize = 3;
-
-const FIRST_MAP: usize = 4;
-
-const FIRST_BUFFER: usize = 5;
-
-const SECOND_MAP: usize = 6;
-
-const SECOND_BUFFER: usize = 7;
-
-const NUMBER: usize = 8;
-
-const LENGTH: usize = 9;
-
-const BYTE: usize = 10;
-
-const NO_FAULT: usize = 11;
-
-// The line of a case: the 144 cases are a line for each fault, for each pair of faults, and for none. Of a
-// length that would be 0 and 32,769 there is none. The second has length 20, 21, or a wrong one.
-pub(crate) fn case(c: usize) {
-    let f = Faults {
-        first: c / 12,
-        second: c % 12,
-    };
-    if spaces::possible(f, NO_FAULT, 4) {
-        say::text(b"join with ");
-        faults::names(
-            b"first length 0/first length 32769/second length 0/second length 32769/\
-            first map short/first buffer short/second map short/second buffer short/\
-            other number/other length/other byte/no fault/",
-            f,
-        );
-        let right = faults::choice(f, LENGTH, 20, 21);
-        joined(
-            f,
-            spaces::wrong_length(f, FIRST_NO_LENGTH, FIRST_LONG, 20),
-            spaces::wrong_length(f, SECOND_NO_LENGTH, SECOND_LONG, right),
-        );
+impl fmt::Display for Fault {
+    fn fmt<W: fmt::Write>(&self, f: &mut fmt::Formatter<W>) -> fmt::Result {
+        f.write_str(match self {
+            Fault::FirstNoLength => "first length 0",
+            Fault::FirstLong => "first length 32769",
+            Fault::SecondNoLength => "second length 0",
+            Fault::SecondLong => "second length 32769",
+            Fault::FirstMap => "first map short",
+            Fault::FirstBuffer => "first buffer short",
+            Fault::SecondMap => "second map short",
+            Fault::SecondBuffer => "second buffer short",
+            Fault::Number => "other number",
+            Fault::Length => "other length",
+            Fault::Byte => "other byte",
+            Fault::Nothing => "no fault",
+        })
     }
 }
 
-// The rest of a line, for both lengths.
-fn joined(f: Faults, length: u32, other: u32) {
-    let j = Join {
-        length,
-        other,
-        number: faults::choice(f, NUMBER, 7, 8),
+// A line for each fault, for each pair of faults, and for none. Of a length that would be 0 and 32,769 there is none.
+pub(crate) fn all(rt: &impl Print, alloc: Global) -> io::Result<()> {
+    for first in Fault::ALL {
+        for second in Fault::ALL {
+            let f = Planted { first, second };
+            if spaces::in_order(f, Fault::Nothing) && !two_lengths(f) {
+                print!(rt; "join with {f}")?;
+                join(f).answer(rt, alloc)?;
+            }
+        }
+    }
+    Ok(())
+}
+
+// Whether two faults give one reception two lengths.
+fn two_lengths(f: Planted<Fault>) -> bool {
+    matches!(
+        (f.first, f.second),
+        (Fault::FirstNoLength, Fault::FirstLong) | (Fault::SecondNoLength, Fault::SecondLong)
+    )
+}
+
+// The join with faults. The second reception has length 20, 21, or a wrong one.
+fn join(f: Planted<Fault>) -> Join {
+    let right = f.choice(Fault::Length, 20, 21);
+    let length = spaces::wrong_length(f, Fault::FirstNoLength, Fault::FirstLong, 20);
+    let other = spaces::wrong_length(f, Fault::SecondNoLength, Fault::SecondLong, right);
+    Join {
+        first: Side {
+            file: File { number: 7, length },
+            pattern: Pattern::Low,
+            set: false,
+            lent: spaces::exact(f, length, Fault::FirstMap, Fault::FirstBuffer),
+        },
+        second: Side {
+            file: File {
+                number: f.choice(Fault::Number, 7, 8),
+                length: other,
+            },
+            pattern: Pattern::High,
+            set: false,
+            lent: spaces::exact(f, other, Fault::SecondMap, Fault::SecondBuffer),
+        },
         made: 20,
-        first: patterns::LOW,
-        second: patterns::HIGH,
-        spare: 0,
         at: 11,
-        bits: faults::has(f, BYTE) as u8,
-    };
-    joins::first(
-        j,
-        spaces::exact(f, length, FIRST_MAP, FIRST_BUFFER),
-        spaces::exact(f, other, SECOND_MAP, SECOND_BUFFER),
-    );
+        bits: u8::from(f.has(Fault::Byte)),
+    }
 }

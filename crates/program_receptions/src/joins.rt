@@ -1,99 +1,123 @@
 // Joining a second reception into a first, and the rest of a line about it; and every pattern of the
 // first joined with every pattern of the second, of which some have a byte that differs. A second of the
 // same pattern has the same rubbish too: it is the first itself.
+use crate::answers::{Added, Sums};
+use crate::patterns::Pattern;
 use crate::spaces::Lent;
-use crate::{answers, patterns, spaces};
-use program_tools::{made, say};
+use crate::{patterns, spaces};
+use program_tools::made;
+use reception::{File, Reception};
+use std::alloc::{AllocError, Global};
+use std::io;
 
-// A join to file 7: the length of the reception and of the other, the other's number, the length for
-// which both were made, their patterns, how their spare bits stand, and the bits that are turned over in
-// the byte at a position of the first.
-#[derive(Clone, Copy)]
+// A reception of a join: its file, its pattern, whether its spare bits are set, and the space that is lent for it.
+#[derive(Clone, Copy, Debug, PartialEq, Eq)]
+pub(crate) struct Side {
+    pub(crate) file: File,
+    pub(crate) pattern: Pattern,
+    pub(crate) set: bool,
+    pub(crate) lent: Lent,
+}
+
+impl Side {
+    // Its map, made for a length.
+    fn map(self, alloc: Global, made: u32) -> Result<Vec<u8>, AllocError> {
+        patterns::map(alloc, self.lent.map, made, self.pattern, self.set)
+    }
+
+    // Its buffer, made for a length.
+    fn buffer(self, alloc: Global, made: u32) -> Result<Vec<u8>, AllocError> {
+        patterns::buffer(alloc, self.lent.buffer, made, self.pattern)
+    }
+}
+
+// A join: the two receptions, the length for which both are made, and the bits that are turned over in the byte at
+// a position of the first.
+#[derive(Clone, Copy, Debug, PartialEq, Eq)]
 pub(crate) struct Join {
-    pub(crate) length: u32,
-    pub(crate) other: u32,
-    pub(crate) number: u32,
+    pub(crate) first: Side,
+    pub(crate) second: Side,
     pub(crate) made: u32,
-    pub(crate) first: usize,
-    pub(crate) second: usize,
-    pub(crate) spare: usize,
     pub(crate) at: usize,
     pub(crate) bits: u8,
 }
 
-// The bits that are turned over, of five cases in turn.
-const BITS: [u8; 5] = [0x20, 0, 0, 0, 0];
+impl Join {
+    // The rest of a line: both receptions are made, and the second is joined into the first.
+    pub(crate) fn answer(self, rt: &impl Print, alloc: Global) -> io::Result<()> {
+        let mut map = self.first.map(alloc, self.made)?;
+        let mut buffer = self.first.buffer(alloc, self.made)?;
+        made::turn(&mut buffer, self.at, self.bits);
+        let other_map = self.second.map(alloc, self.made)?;
+        let other_buffer = self.second.buffer(alloc, self.made)?;
+        let second = Reception {
+            file: self.second.file,
+            map: &other_map,
+            buffer: &other_buffer,
+        };
+        let added = Added(reception::join(self.first.file, &mut map, &mut buffer, second));
+        let sums = Sums {
+            map: &map,
+            buffer: &buffer,
+        };
+        println!(rt; ": {added}, {sums}")
+    }
+}
 
-// The line of a case: one of seven lengths, with one of seven patterns for each reception.
-pub(crate) fn case(c: usize) {
-    let bits = BITS;
-    let length = spaces::length(c / 49 + 1);
-    let j = Join {
-        length,
-        other: length,
-        number: 7,
+// The lines of seven lengths.
+pub(crate) fn all(rt: &impl Print, alloc: Global) -> io::Result<()> {
+    for (row, length) in (0..).zip(&spaces::LENGTHS[1..8]) {
+        each(rt, alloc, row, *length)?;
+    }
+    Ok(())
+}
+
+// The lines of a length, which stands in a row of the list, with one of seven patterns for each reception.
+fn each(rt: &impl Print, alloc: Global, row: u8, length: u32) -> io::Result<()> {
+    for first in &Pattern::ALL[..7] {
+        for second in &Pattern::ALL[..7] {
+            let c = u64::from(row) * 49 + *first as u64 * 7 + *second as u64;
+            joined(rt, alloc, drawn(c, length, *first, *second))?;
+        }
+    }
+    Ok(())
+}
+
+// The join of two patterns, drawn from a number: one in five has a byte of the first that differs, and the spare
+// bits of each reception are set in turn.
+fn drawn(c: u64, length: u32, first: Pattern, second: Pattern) -> Join {
+    let file = File { number: 7, length };
+    Join {
+        first: Side {
+            file,
+            pattern: first,
+            set: c % 2 == 1,
+            lent: spaces::space(length, 3, 3),
+        },
+        second: Side {
+            file,
+            pattern: second,
+            set: c / 2 % 2 == 1,
+            lent: spaces::space(length, 4, 4),
+        },
         made: length,
-        first: c % 49 / 7,
-        second: c % 7,
-        spare: c % 4,
         at: spaces::below(c, length) as usize,
-        bits: bits[c % 5],
+        bits: if c % 5 == 0 { 0x20 } else { 0 },
+    }
+}
+
+// The line of a join.
+fn joined(rt: &impl Print, alloc: Global, j: Join) -> io::Result<()> {
+    let spare = match (j.first.set, j.second.set) {
+        (false, false) => "clear",
+        (true, false) => "of the first set",
+        (false, true) => "of the second set",
+        (true, true) => "set",
     };
-    names(j);
-    first(j, spaces::space(length, 3, 3), spaces::space(length, 4, 4));
-}
-
-// The start of a line.
-fn names(j: Join) {
-    patterns::named(b"join #", j.length, j.first);
-    patterns::named(b" with", 0, j.second);
-    say::line(
-        b", spare bits clear, turned over # at #/, spare bits of the first set, turned over # at #/\
-        , spare bits of the second set, turned over # at #/, spare bits set, turned over # at #/",
-        j.spare,
-        j.bits as u32,
-        (j.at % 65536) as u32,
-        0,
-    );
-}
-
-// The rest of a line: the first reception is made in a lent space.
-pub(crate) fn first(j: Join, space: Lent, other: Lent) {
-    let mut map = patterns::map(j.made, j.first, j.spare % 2 == 1);
-    let mut buffer = patterns::buffer(j.made, j.first);
-    made::turn(&mut buffer, j.at, j.bits);
-    second(
-        j,
-        other,
-        made::lent(&mut map, space.map),
-        made::lent(&mut buffer, space.buffer),
-    );
-}
-
-// The second reception is made.
-fn second(j: Join, other: Lent, map: &mut [u8], buffer: &mut [u8]) {
-    let other_map = patterns::map(j.made, j.second, j.spare / 2 == 1);
-    let other_buffer = patterns::buffer(j.made, j.second);
-    answer(
-        j,
-        map,
-        buffer,
-        made::first(&other_map, other.map),
-        made::first(&other_buffer, other.buffer),
-    );
-}
-
-// The two are joined.
-fn answer(j: Join, map: &mut [u8], buffer: &mut [u8], other_map: &[u8], other_buffer: &[u8]) {
-    answers::added(reception::join(
-        7,
-        j.length,
-        map,
-        buffer,
-        j.number,
-        j.other,
-        other_map,
-        other_buffer,
-    ));
-    answers::sums(b", map # buffer #\n", map, buffer);
+    print!(rt;
+        "join {} {} with {}",
+        j.made, j.first.pattern, j.second.pattern
+    )?;
+    print!(rt; ", spare bits {spare}, turned over {} at {}", j.bits, j.at)?;
+    j.answer(rt, alloc)
 }

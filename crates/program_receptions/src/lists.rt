@@ -1,32 +1,32 @@
 // The hole that is answered from a place: from every place of receptions of two lengths and two patterns,
-// and from two places behind their ends.
+// and from three places behind their ends.
 use crate::patterns;
-use holes::Listed;
-use program_tools::say;
+use crate::patterns::Pattern;
+use crate::spaces::MAP;
+use program_tools::show::Refused;
+use std::alloc::Global;
+use std::io;
 
-// The line of a case: for each of two patterns 23 places of length 20 and 68 of length 65.
-pub(crate) fn case(c: usize) {
-    let pattern = patterns::SOME + c / 91 % 2;
-    let place = (c % 91) as u32;
-    if place < 23 {
-        asked(20, pattern, place);
-    } else {
-        asked(65, pattern, place - 23);
+// The lines of two patterns, each of length 20 and of length 65.
+pub(crate) fn all(rt: &impl Print, alloc: Global) -> io::Result<()> {
+    for pattern in [Pattern::Several, Pattern::Others] {
+        for length in [20, 65] {
+            asked(rt, alloc, length, pattern)?;
+        }
     }
+    Ok(())
 }
 
-// The line of a list, asked of a map whose spare bits are set.
-fn asked(length: u32, pattern: usize, place: u32) {
-    let map = patterns::map(length, pattern, true);
-    patterns::named(b"list #", length, pattern);
-    say::named(b" from ", place as u64);
-    listed(holes::list(length, &map, place));
-}
-
-// The rest of a line: a hole, as its first position and how many it has, or the reason.
-fn listed(listed: Listed) {
-    match listed {
-        Listed::Accepted(hole) => say::told(b": hole at # of #\n", hole.start, hole.length, 0),
-        Listed::Refused(reason) => say::told(b": refused #\n", reason as u32, 0, 0),
+// The lines of a length and a pattern, asked of a map whose spare bits are set: a hole, as its first position
+// and how many it has, or the reason.
+fn asked(rt: &impl Print, alloc: Global, length: u32, pattern: Pattern) -> io::Result<()> {
+    let map = patterns::map(alloc, MAP, length, pattern, true)?;
+    for place in 0..length.saturating_add(3) {
+        print!(rt; "list {length} {pattern} from {place}: ")?;
+        match holes::list(length, &map, place) {
+            Ok(hole) => println!(rt; "hole at {} of {}", hole.start, hole.length)?,
+            Err(reason) => println!(rt; "{}", Refused(reason))?,
+        }
     }
+    Ok(())
 }

@@ -1,44 +1,92 @@
 // Opening: lengths on both sides of every limit, each with a map and a buffer that are short by one,
-// exact, and longer by five, full of rubbish.
+// exact, and longer by five, full of rubbish; and the sequence of pieces where both are exact or both are
+// longer.
+use crate::answers::Sums;
+use crate::patterns::Pattern;
+use crate::sequences::Sequence;
 use crate::spaces::Lent;
-use crate::{answers, patterns, sequences, spaces};
-use program_tools::{made, say};
+use crate::{patterns, spaces};
+use program_tools::show::Refused;
+use std::alloc::Global;
+use std::io;
 
-// How many bytes more than short by one the spaces have.
-const MORE: [usize; 3] = [0, 1, 6];
-
-// The lines of a case: a length, with one of nine sizes of the space.
-pub(crate) fn case(c: usize) {
-    let more = MORE;
-    let length = spaces::length(c / 9);
-    lent(
-        c,
-        length,
-        spaces::space(length % 33000, more[c / 3 % 3], more[c % 3]),
-    );
+// How large a space is: short by one, exact, or longer by five.
+#[derive(Clone, Copy, Debug, PartialEq, Eq)]
+enum Size {
+    Short = 0,
+    Exact = 1,
+    Longer = 6,
 }
 
-// The lines of a length with so many bytes of map and buffer.
-fn lent(c: usize, length: u32, space: Lent) {
-    let mut map = patterns::map(0, patterns::NONE, false);
-    let mut buffer = patterns::buffer(0, patterns::NONE);
-    say::told(
-        b"open # with map of # and buffer of #",
-        length,
-        (space.map % 65536) as u32,
-        (space.buffer % 65536) as u32,
-    );
-    opened(
-        c,
-        length,
-        made::lent(&mut map, space.map),
-        made::lent(&mut buffer, space.buffer),
-    );
+impl Size {
+    const ALL: [Size; 3] = [Size::Short, Size::Exact, Size::Longer];
+
+    // How many bytes more than short by one it has.
+    fn more(self) -> u8 {
+        self as u8
+    }
 }
 
-// The answer, and the sequence of pieces where the case has one.
-fn opened(c: usize, length: u32, map: &mut [u8], buffer: &mut [u8]) {
-    answers::opened(reception::open(length, map, buffer));
-    answers::sums(b", map # buffer #\n", map, buffer);
-    sequences::case(c, length, map, buffer);
+// The lines of every length.
+pub(crate) fn all(rt: &impl Print, alloc: Global) -> io::Result<()> {
+    for (row, length) in (0..).zip(spaces::LENGTHS) {
+        each(rt, alloc, row, length)?;
+    }
+    Ok(())
+}
+
+// The lines of a length, which stands in a row of the list, with every size of the spaces.
+fn each(rt: &impl Print, alloc: Global, row: u8, length: u32) -> io::Result<()> {
+    for map in Size::ALL {
+        for buffer in Size::ALL {
+            let lent = spaces::space(length % 33000, map.more(), buffer.more());
+            opened(rt, alloc, length, lent, sequence(row, map, buffer))?;
+        }
+    }
+    Ok(())
+}
+
+// The sequence of pieces for two sizes, where there is one. The spare bits are clear in exact space and set in
+// longer space, or the other way round, in turn from length to length.
+fn sequence(row: u8, map: Size, buffer: Size) -> Option<Sequence> {
+    match (map, buffer) {
+        (Size::Exact, Size::Exact) => Some(Sequence {
+            seed: u16::from(row) * 126 + 56,
+            set: row % 2 == 1,
+        }),
+        (Size::Longer, Size::Longer) => Some(Sequence {
+            seed: u16::from(row) * 126 + 112,
+            set: row % 2 == 0,
+        }),
+        _ => None,
+    }
+}
+
+// The lines of a length with so many bytes of map and buffer: the answer, and the sequence of pieces.
+fn opened(
+    rt: &impl Print,
+    alloc: Global,
+    length: u32,
+    lent: Lent,
+    sequence: Option<Sequence>,
+) -> io::Result<()> {
+    let mut map = patterns::rubbish(alloc, lent.map, Pattern::Nothing)?;
+    let mut buffer = patterns::rubbish(alloc, lent.buffer, Pattern::Nothing)?;
+    print!(rt;
+        "open {length} with map of {} and buffer of {}",
+        lent.map, lent.buffer
+    )?;
+    match reception::open(length, &mut map, &mut buffer) {
+        Ok(()) => print!(rt; ": opened")?,
+        Err(reason) => print!(rt; ": {}", Refused(reason))?,
+    }
+    let sums = Sums {
+        map: &map,
+        buffer: &buffer,
+    };
+    println!(rt; ", {sums}")?;
+    match sequence {
+        Some(sequence) => sequence.taken(rt, alloc, length, &mut map, &mut buffer),
+        None => Ok(()),
+    }
 }

@@ -1,119 +1,134 @@
 // Maps and buffers that hold the positions of a pattern, with rubbish wherever nothing is held. The rubbish
 // of two patterns differs.
 use crate::spaces;
-use program_tools::{made, say};
+use program_tools::made;
+use std::alloc::{AllocError, Global};
+use std::fmt;
 
-// The patterns: held are none, all positions, the even ones, the odd ones, those of two kinds drawn by
-// lot, those of every other map byte, those of runs drawn by lot, those below 12, and those from 8 on.
-pub(crate) const NONE: usize = 0;
-
-pub(crate) const ALL: usize = 1;
-
-const EVEN: usize = 2;
-
-const ODD: usize = 3;
-
-pub(crate) const SOME: usize = 4;
-
-const OTHERS: usize = 5;
-
-const BYTES: usize = 6;
-
-pub(crate) const LOW: usize = 8;
-
-pub(crate) const HIGH: usize = 9;
-
-// A text with a number in it, and the name of a pattern behind it.
-pub(crate) fn named(text: &[u8], n: u32, pattern: usize) {
-    say::told(text, n, 0, 0);
-    say::word(
-        b" none/ all/ even/ odd/ some/ others/ bytes/ runs/ low/ high/",
-        pattern,
-    );
+// What is held: no position, every one, the even ones, the odd ones, those of two kinds drawn by lot, those
+// of every other map byte, those of runs drawn by lot, those below 12, and those from 8 on.
+#[derive(Clone, Copy, Debug, PartialEq, Eq)]
+pub(crate) enum Pattern {
+    Nothing,
+    Everything,
+    Even,
+    Odd,
+    Several,
+    Others,
+    Bytes,
+    Runs,
+    Low,
+    High,
 }
 
-// Whether a pattern holds a position.
-fn holds(pattern: usize, p: usize) -> bool {
-    match pattern {
-        NONE => false,
-        ALL => true,
-        EVEN => p % 2 == 0,
-        ODD => p % 2 == 1,
-        BYTES => p / 8 % 2 == 1,
-        LOW => p < 12,
-        HIGH => p > 7,
-        _ => drawn(pattern, p % 65536),
-    }
-}
+impl Pattern {
+    // All but the last two, which only the receptions with faults have.
+    pub(crate) const ALL: [Pattern; 8] = [
+        Pattern::Nothing,
+        Pattern::Everything,
+        Pattern::Even,
+        Pattern::Odd,
+        Pattern::Several,
+        Pattern::Others,
+        Pattern::Bytes,
+        Pattern::Runs,
+    ];
 
-// Whether a pattern that is drawn by lot holds a position.
-fn drawn(pattern: usize, p: usize) -> bool {
-    match pattern {
-        SOME => spaces::below(5000 + p / 3, 2) == 0,
-        OTHERS => spaces::below(9000 + p % 65536, 3) == 0,
-        _ => spaces::below(700 + p / 11, 2) == 1,
-    }
-}
-
-// The byte of a buffer: at a position that is held that of the made-up file, else one of rubbish.
-fn byte(p: usize, length: u32, pattern: usize) -> u8 {
-    if p < length as usize {
-        if holds(pattern, p) {
-            let q = p % 65536;
-            return ((q * 37 + q / 256 * 11 + 5) % 256) as u8;
+    // Whether the pattern holds a position.
+    fn holds(self, p: u32) -> bool {
+        match self {
+            Pattern::Nothing => false,
+            Pattern::Everything => true,
+            Pattern::Even => p % 2 == 0,
+            Pattern::Odd => p % 2 == 1,
+            Pattern::Several => spaces::below(u64::from(p / 3) + 5000, 2) == 0,
+            Pattern::Others => spaces::below(u64::from(p) + 9000, 3) == 0,
+            Pattern::Bytes => p / 8 % 2 == 1,
+            Pattern::Runs => spaces::below(u64::from(p / 11) + 700, 2) == 1,
+            Pattern::Low => p < 12,
+            Pattern::High => p > 7,
         }
     }
-    made::rubbish(p, pattern)
 }
 
-// The buffer of a reception of a length and a pattern.
-pub(crate) fn buffer(length: u32, pattern: usize) -> [u8; 33000] {
-    let mut buffer = [0; 33000];
-    fill(&mut buffer, length, pattern);
-    buffer
-}
-
-// Fills all of a space with the bytes of a buffer.
-fn fill(bytes: &mut [u8], length: u32, pattern: usize) {
-    let mut i = 0;
-    while i < bytes.len() {
-        bytes[i] = byte(i, length, pattern);
-        i += 1;
+impl fmt::Display for Pattern {
+    fn fmt<W: fmt::Write>(&self, f: &mut fmt::Formatter<W>) -> fmt::Result {
+        f.write_str(match self {
+            Pattern::Nothing => "none",
+            Pattern::Everything => "all",
+            Pattern::Even => "even",
+            Pattern::Odd => "odd",
+            Pattern::Several => "some",
+            Pattern::Others => "others",
+            Pattern::Bytes => "bytes",
+            Pattern::Runs => "runs",
+            Pattern::Low => "low",
+            Pattern::High => "high",
+        })
     }
 }
 
-// The map of a reception, with its spare bits set or clear.
-pub(crate) fn map(length: u32, pattern: usize, set: bool) -> [u8; 4200] {
-    let mut map = [0; 4200];
-    fill(&mut map, 0, pattern);
-    hold(&mut map, length, pattern);
+// The byte of the made-up file at a position.
+pub(crate) fn file_byte(p: u32) -> u8 {
+    let p = u64::from(p);
+    ((p * 37 + p / 256 * 11 + 5) % 256) as u8
+}
+
+// The byte of rubbish at a place.
+fn rubbish_byte(at: u32, pattern: Pattern) -> u8 {
+    made::rubbish(at as usize, pattern as usize)
+}
+
+// So many bytes of rubbish.
+pub(crate) fn rubbish(alloc: Global, size: u32, pattern: Pattern) -> Result<Vec<u8>, AllocError> {
+    (0..size).map(|at| rubbish_byte(at, pattern)).collect(alloc)
+}
+
+// So many bytes of the buffer of a reception of a length: at a position that is held the byte of the made-up
+// file.
+pub(crate) fn buffer(
+    alloc: Global,
+    size: u32,
+    length: u32,
+    pattern: Pattern,
+) -> Result<Vec<u8>, AllocError> {
+    (0..size)
+        .map(|p| {
+            if p < length && pattern.holds(p) {
+                file_byte(p)
+            } else {
+                rubbish_byte(p, pattern)
+            }
+        })
+        .collect(alloc)
+}
+
+// So many bytes of the map of a reception of a length, with its spare bits set or clear.
+pub(crate) fn map(
+    alloc: Global,
+    size: u32,
+    length: u32,
+    pattern: Pattern,
+    set: bool,
+) -> Result<Vec<u8>, AllocError> {
+    let mut map = rubbish(alloc, size, pattern)?;
+    for p in 0..length {
+        put(&mut map, p / 8, 1 << (p % 8), pattern.holds(p));
+    }
     spare(&mut map, length, set);
-    map
-}
-
-// Makes the positions of a pattern held in a map, and the others not.
-fn hold(map: &mut [u8], length: u32, pattern: usize) {
-    for p in 0..length as usize {
-        put(map, p / 8, 1 << (p % 8), holds(pattern, p));
-    }
+    Ok(map)
 }
 
 // Makes the spare bits of a map set or clear.
 pub(crate) fn spare(map: &mut [u8], length: u32, set: bool) {
-    let n = length as usize;
-    if n % 8 != 0 {
-        put(map, n / 8, 255 << (n % 8), set);
+    if length % 8 != 0 {
+        put(map, length / 8, 255 << (length % 8), set);
     }
 }
 
 // Makes some bits of a map byte set or clear, where it is lent.
-fn put(map: &mut [u8], at: usize, bits: u8, set: bool) {
-    if at < map.len() {
-        map[at] = with_bits(map[at], bits, set);
+fn put(map: &mut [u8], at: u32, bits: u8, set: bool) {
+    if let Some(byte) = map.get_mut(at as usize) {
+        *byte = if set { *byte | bits } else { *byte & !bits };
     }
-}
-
-// A byte with some of its bits set or clear.
-fn with_bits(b: u8, bits: u8, set: bool) -> u8 {
-    if set { b | bits } else { b & (255 - bits) }
 }

@@ -1,69 +1,65 @@
 // What the cases are made of: lengths, spaces, and numbers that look drawn by lot.
-use program_tools::faults::Faults;
-use program_tools::{faults, made};
+use program_tools::planted::Planted;
 
 // The lengths of files: those on both sides of every limit and of a map byte, and some between. A file
 // can have those from the second to the twelfth.
-const LENGTHS: [u32; 15] = [
+pub(crate) const LENGTHS: [u32; 15] = [
     0, 1, 7, 8, 9, 20, 65, 1000, 63, 64, 32767, 32768, 32769, 65556, 4294967295,
 ];
 
-// A length of the list.
-pub(crate) fn length(k: usize) -> u32 {
-    let lengths = LENGTHS;
-    lengths[k % 15]
-}
+// How many bytes of a map are lent where nothing is to be written: more than any file needs.
+pub(crate) const MAP: u32 = 4200;
 
 // How many bytes of a map and of a buffer are lent.
-#[derive(Clone, Copy)]
+#[derive(Clone, Copy, Debug, PartialEq, Eq)]
 pub(crate) struct Lent {
-    pub(crate) map: usize,
-    pub(crate) buffer: usize,
+    pub(crate) map: u32,
+    pub(crate) buffer: u32,
 }
 
 // Space for a file, short by one in the map and in the buffer but for some bytes more.
-pub(crate) fn space(length: u32, map: usize, buffer: usize) -> Lent {
+pub(crate) fn space(length: u32, map: u8, buffer: u8) -> Lent {
     Lent {
-        map: size(made::map_size(length), map),
-        buffer: size(length as usize, buffer),
+        map: size(length.div_ceil(8), map),
+        buffer: size(length, buffer),
     }
 }
 
 // A size short by one but for some bytes more.
-fn size(n: usize, more: usize) -> usize {
-    let exact = n % 65536 + more % 65536;
-    if exact == 0 { 0 } else { exact - 1 }
+fn size(exact: u32, more: u8) -> u32 {
+    exact.saturating_add(u32::from(more)).saturating_sub(1)
 }
 
 // The space of a reception with faults, exact for its length, or for 20 where it has none, or short by one in the map or
 // in the buffer.
-pub(crate) fn exact(f: Faults, length: u32, map: usize, buffer: usize) -> Lent {
+pub(crate) fn exact<F: Copy + PartialEq>(f: Planted<F>, length: u32, map: F, buffer: F) -> Lent {
     space(
         if length == 0 { 20 } else { length },
-        !faults::has(f, map) as usize,
-        !faults::has(f, buffer) as usize,
+        u8::from(!f.has(map)),
+        u8::from(!f.has(buffer)),
     )
 }
 
 // The length of a reception: a right one, or by two faults 0 or 32,769.
-pub(crate) fn wrong_length(f: Faults, none: usize, long: usize, right: u32) -> u32 {
-    faults::choice(f, none, faults::choice(f, long, right, 32769), 0)
+pub(crate) fn wrong_length<F: Copy + PartialEq>(
+    f: Planted<F>,
+    none: F,
+    long: F,
+    right: u32,
+) -> u32 {
+    f.choice(none, f.choice(long, right, 32769), 0)
 }
 
-// Whether a pair of faults is one to try, where `none` is the number of "no fault", which is tried alone. The faults
-// below `lengths` are two for each length, 0 and 32,769, and no length has both.
-pub(crate) fn possible(f: Faults, none: usize, lengths: usize) -> bool {
-    let one_length = (f.first / 2 == f.second / 2) & (f.second < lengths);
-    (f.first == f.second) | ((f.first < f.second) & (f.second != none) & !one_length)
+// Whether two faults are to be tried, where `none` is "no fault", which is tried alone: one that stands twice, or two in
+// their order.
+pub(crate) fn in_order<F: Copy + PartialOrd>(f: Planted<F>, none: F) -> bool {
+    f.first == f.second || (f.first < f.second && f.second != none)
 }
 
 // A number below n, drawn by lot: always the same for one k and n, and 0 where n is 0.
-pub(crate) fn below(k: usize, n: u32) -> u32 {
-    if n == 0 {
-        return 0;
-    }
-    let drawn = mixed(mixed(mixed(k as u64))) / 65536 % 32768;
-    (drawn as u32) % n
+pub(crate) fn below(k: u64, n: u32) -> u32 {
+    let drawn = mixed(mixed(mixed(k))) / 65536 % 32768;
+    (drawn as u32) % n.max(1)
 }
 
 // One turn of the lot: a number below 2^31.

@@ -1,11 +1,14 @@
 // Taking one piece of the made-up file into a reception, and the rest of a line about it.
-use crate::{answers, patterns};
-use program_tools::{made, say};
-use reception::Added;
+use crate::answers::{Added, Sums};
+use crate::patterns;
+use program_tools::made;
+use reception::{Data, File};
+use std::alloc::{AllocError, Global};
+use std::io;
 
 // A piece for the reception of file 7: the reception's length, the piece's number, offset and size, and
 // the bits that are turned over in the byte at a place of it.
-#[derive(Clone, Copy)]
+#[derive(Clone, Copy, Debug, PartialEq, Eq)]
 pub(crate) struct Take {
     pub(crate) length: u32,
     pub(crate) number: u32,
@@ -15,43 +18,45 @@ pub(crate) struct Take {
     pub(crate) bits: u8,
 }
 
-// The rest of a line: a reception takes a piece.
-pub(crate) fn answer(t: Take, map: &mut [u8], buffer: &mut [u8]) {
-    answers::added(taken(t, map, buffer));
-    left(t.length, map, buffer);
-}
+impl Take {
+    // The bytes of the piece.
+    fn bytes(self, alloc: Global) -> Result<Vec<u8>, AllocError> {
+        let mut bytes: Vec<u8> = (self.offset..self.offset.saturating_add(self.size))
+            .map(patterns::file_byte)
+            .collect(alloc)?;
+        made::turn(&mut bytes, self.at, self.bits);
+        Ok(bytes)
+    }
 
-// What is answered.
-fn taken(t: Take, map: &mut [u8], buffer: &mut [u8]) -> Added {
-    let file = file(t);
-    let piece = made::first(made::behind(&file, t.offset as usize), t.size as usize);
-    reception::take(7, t.length, map, buffer, t.number, t.offset, piece)
-}
-
-// The file of which the piece is a part.
-fn file(t: Take) -> [u8; 33000] {
-    let mut file = patterns::buffer(33000, patterns::ALL);
-    made::turn(&mut file, (t.offset as usize) + t.at % 65536, t.bits);
-    file
-}
-
-// The end of a line: the sums, and how many positions are held, twice: as the library counts them, and
-// asked one by one.
-fn left(length: u32, map: &[u8], buffer: &[u8]) {
-    answers::sums(b", map # buffer #", map, buffer);
-    say::told(
-        b", held # and #\n",
-        reception::count_held(length, map),
-        each(length, map),
-        0,
-    );
+    // The rest of a line: a reception takes the piece. How many positions are held is said twice: as the library
+    // counts them, and asked one by one.
+    pub(crate) fn answer(
+        self,
+        rt: &impl Print,
+        alloc: Global,
+        map: &mut [u8],
+        buffer: &mut [u8],
+    ) -> io::Result<()> {
+        let bytes = self.bytes(alloc)?;
+        let length = self.length;
+        let data = Data {
+            number: self.number,
+            offset: self.offset,
+            bytes: &bytes,
+        };
+        let added = Added(reception::take(File { number: 7, length }, map, buffer, data));
+        print!(rt; ": {added}, {}", Sums { map, buffer })?;
+        println!(rt;
+            ", held {} and {}",
+            reception::count_held(length, map),
+            each(length, map)
+        )
+    }
 }
 
 // How many positions are held, of all of a file and three behind its end.
-fn each(length: u32, map: &[u8]) -> u32 {
-    let mut count = 0;
-    for p in 0..length % 65536 + 3 {
-        count = std::num::wrapping_add_u32(count, reception::is_held(length, map, p) as u32);
-    }
-    count
+fn each(length: u32, map: &[u8]) -> usize {
+    (0..length % 65536 + 3)
+        .filter(|p| reception::is_held(length, map, *p))
+        .count()
 }

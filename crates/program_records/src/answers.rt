@@ -1,26 +1,34 @@
-// The lines: bytes, and what the library answered and left.
-use program_tools::{made, say};
-use record::RecordRead;
+// What the lines show: bytes, and what the library answered.
+use program_tools::made;
+use program_tools::show::{Hex, Refused};
+use reason::Reason;
+use reception::File;
+use std::fmt;
 
-// Whether what should be unchanged is so: 1 or 0.
-pub(crate) fn unchanged(kept: bool) {
-    say::named(b" unchanged ", kept as u64);
-}
+// Bytes: up to 43 in hexadecimal, more as their sum.
+#[derive(Clone, Copy, Debug, PartialEq, Eq)]
+pub(crate) struct Bytes<'a>(pub(crate) &'a [u8]);
 
-// A text, and bytes: up to 43 in hexadecimal, more as their sum.
-pub(crate) fn bytes(words: &[u8], bytes: &[u8]) {
-    say::text(words);
-    if bytes.len() > 43 {
-        say::named(b" sum ", made::sum(bytes) as u64);
-    } else {
-        say::bytes(bytes);
+impl fmt::Display for Bytes<'_> {
+    fn fmt<W: fmt::Write>(&self, f: &mut fmt::Formatter<W>) -> fmt::Result {
+        let bytes = self.0;
+        if bytes.len() > 43 {
+            write!(f, " sum {}", made::sum(bytes))
+        } else {
+            write!(f, "{}", Hex(bytes))
+        }
     }
 }
 
-// What reading or loading a record answered: the number and the length, or the reason.
-pub(crate) fn read(answer: RecordRead) {
-    match answer {
-        RecordRead::Accepted(said) => say::told(b" accepted # #", said.number, said.length, 0),
-        RecordRead::Refused(reason) => say::named(b" refused ", reason as u64),
+// What reading or loading a record answered: the number and the length of its file, or the reason.
+#[derive(Clone, Copy, Debug, PartialEq, Eq)]
+pub(crate) struct Said(pub(crate) Result<File, Reason>);
+
+impl fmt::Display for Said {
+    fn fmt<W: fmt::Write>(&self, f: &mut fmt::Formatter<W>) -> fmt::Result {
+        match self.0 {
+            Ok(file) => write!(f, "accepted {} {}", file.number, file.length),
+            Err(reason) => write!(f, "{}", Refused(reason)),
+        }
     }
 }

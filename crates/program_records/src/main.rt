@@ -11,41 +11,14 @@ mod maps;
 mod saves;
 mod spaces;
 
-// The series of cases.
-const FAULTS: u8 = 0;
+use std::io;
 
-const ROUNDS: u8 = 1;
-
-const CUTS: u8 = 2;
-
-const BYTES: u8 = 3;
-
-const NUMBERS: u8 = 4;
-
-fn main() {
-    each(FAULTS, 108);
-    each(ROUNDS, 78);
-    each(CUTS, 46);
-    each(BYTES, 258);
-    each(NUMBERS, 10);
-    changes::exchanged();
-    maps::all();
-}
-
-// All cases of a series.
-fn each(series: u8, cases: usize) {
-    for c in 0..cases {
-        case(series, c);
-    }
-}
-
-// The case of a series with a number.
-fn case(series: u8, c: usize) {
-    match series {
-        FAULTS => saves::faults(c),
-        ROUNDS => saves::round(c),
-        CUTS => changes::cut(c),
-        BYTES => changes::byte(c),
-        _ => changes::number(c),
-    }
+fn main(rt: HostRuntime) -> io::Result<()> {
+    saves::faults(&rt, rt.alloc())?;
+    saves::rounds(&rt, rt.alloc())?;
+    changes::cuts(&rt, rt.alloc())?;
+    changes::bytes(&rt, rt.alloc())?;
+    changes::numbers(&rt, rt.alloc())?;
+    changes::exchanged(&rt, rt.alloc())?;
+    maps::all(&rt)
 }

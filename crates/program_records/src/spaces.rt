@@ -1,162 +1,158 @@
-// What the cases are made of: receptions that hold the positions of a pattern, lent space full of rubbish,
-// and sizes.
+// What the cases are made of: receptions that hold the positions of a pattern, and lent space full of
+// rubbish.
 use program_tools::made;
+use reception::File;
+use std::alloc::{AllocError, Global};
+use std::fmt;
 
-// A reception: its number, its length, its pattern, and whether its spare bits are set.
-#[derive(Clone, Copy)]
+// What is held: no position, every one, every second, the first only, the last only, of every 40 a run from
+// 5 to 18, and the positions of the worked record.
+#[derive(Clone, Copy, Debug, PartialEq, Eq)]
+pub(crate) enum Pattern {
+    Nothing,
+    Everything,
+    Alternate,
+    First,
+    Last,
+    Runs,
+    Worked,
+}
+
+impl Pattern {
+    // All but that of the worked record.
+    pub(crate) const ALL: [Pattern; 6] = [
+        Pattern::Nothing,
+        Pattern::Everything,
+        Pattern::Alternate,
+        Pattern::First,
+        Pattern::Last,
+        Pattern::Runs,
+    ];
+}
+
+// The lines show a pattern by its place in the list.
+impl fmt::Display for Pattern {
+    fn fmt<W: fmt::Write>(&self, f: &mut fmt::Formatter<W>) -> fmt::Result {
+        write!(f, "{}", *self as u8)
+    }
+}
+
+// A space that has rubbish of its own: the map and the unheld bytes of the buffer of a reception that is saved, and a map,
+// a buffer and a target that are lent to be written.
+#[derive(Clone, Copy, Debug, PartialEq, Eq)]
+pub(crate) enum Space {
+    SavedMap = 0,
+    Map = 2,
+    Buffer = 3,
+    Target = 4,
+    SavedBuffer = 5,
+}
+
+impl Space {
+    // The byte of its rubbish at a place.
+    fn byte(self, at: u32) -> u8 {
+        made::rubbish(at as usize, self as usize)
+    }
+
+    // So many bytes of its rubbish.
+    pub(crate) fn rubbish(self, alloc: Global, size: u32) -> Result<Vec<u8>, AllocError> {
+        (0..size).map(|at| self.byte(at)).collect(alloc)
+    }
+
+    // Whether it still has its rubbish from a place on.
+    pub(crate) fn is_kept(self, bytes: &[u8], from: usize) -> bool {
+        bytes
+            .iter()
+            .enumerate()
+            .skip(from)
+            .all(|(at, byte)| *byte == made::rubbish(at, self as usize))
+    }
+}
+
+// A reception: its file, its pattern, and whether its spare bits are set.
+#[derive(Clone, Copy, Debug, PartialEq, Eq)]
 pub(crate) struct Held {
-    pub(crate) number: u32,
-    pub(crate) length: u32,
-    pub(crate) pattern: usize,
+    pub(crate) file: File,
+    pub(crate) pattern: Pattern,
     pub(crate) set: bool,
 }
 
-// The patterns: held are none, all positions, every second, the first only, the last only, of every 40 a
-// run from 5 to 18, and the positions of the worked record.
-const NONE: usize = 0;
-
-const ALL: usize = 1;
-
-const ALTERNATE: usize = 2;
-
-const FIRST: usize = 3;
-
-const LAST: usize = 4;
-
-const RUNS: usize = 5;
-
-pub(crate) const WORKED: usize = 6;
-
-// What a space is filled with: the map or the buffer of a reception, with rubbish where nothing is held,
-// or the rubbish of a lent map, of a lent buffer and of a lent target.
-pub(crate) const HELD_MAP: usize = 0;
-
-pub(crate) const HELD_BUFFER: usize = 1;
-
-pub(crate) const MAP: usize = 2;
-
-pub(crate) const BUFFER: usize = 3;
-
-pub(crate) const TARGET: usize = 4;
-
-const UNHELD: usize = 5;
-
-// How many bytes of a map, of a buffer and of a target are lent.
-#[derive(Clone, Copy)]
-pub(crate) struct Lent {
-    pub(crate) map: usize,
-    pub(crate) buffer: usize,
-    pub(crate) target: usize,
-}
-
-// The space for a file and its record, with so many bytes more of each.
-pub(crate) fn space(length: u32, more: usize) -> Lent {
-    let l = (length as usize) % 70000;
-    let m = made::map_size(length % 70000) % 70000;
-    let n = more % 70000;
-    Lent {
-        map: m + n,
-        buffer: l + n,
-        target: 20 + m + l + n,
+impl Held {
+    // Whether a position below the length is held.
+    fn holds(self, p: u32) -> bool {
+        match self.pattern {
+            Pattern::Nothing => false,
+            Pattern::Everything => true,
+            Pattern::Alternate => p % 2 == 0,
+            Pattern::First => p == 0,
+            Pattern::Last => p.wrapping_add(1) == self.file.length,
+            Pattern::Runs => (5..19).contains(&(p % 40)),
+            Pattern::Worked => matches!(p, 0..=3 | 8 | 9),
+        }
     }
-}
 
-// Whether a position below the length is held.
-fn holds(h: Held, p: usize) -> bool {
-    let pattern = h.pattern;
-    match pattern {
-        NONE => false,
-        ALL => true,
-        ALTERNATE => p % 2 == 0,
-        FIRST => p == 0,
-        LAST => p % 65536 + 1 == h.length as usize,
-        RUNS => (p % 40 > 4) & (p % 40 < 19),
-        _ => (p < 4) | (p / 2 == 4),
+    // The bit of the map at a position: beyond the length it is spare.
+    fn bit(self, p: u32) -> bool {
+        if p < self.file.length {
+            self.holds(p)
+        } else {
+            self.set
+        }
     }
-}
 
-// The bit of a map at a position: beyond the length it is spare.
-fn bit(h: Held, p: usize) -> bool {
-    if p < h.length as usize {
-        holds(h, p)
-    } else {
-        h.set
+    // The byte of the map whose lowest bit is that of a position: each of its eight bits is moved in at the low end.
+    fn map_byte(self, first: u32) -> u8 {
+        (0..8)
+            .rev()
+            .map(|k| self.bit(first.saturating_add(k)))
+            .fold(0, |byte, bit| (byte << 1) | u8::from(bit))
     }
-}
 
-// The byte of a map at a place: each of its eight bits is moved in from the high end.
-fn map_byte(h: Held, at: usize) -> u8 {
-    let mut b: u8 = 0;
-    for k in 0..8 {
-        b = moved(b, bit(h, at % 65536 * 8 + k));
+    // So many bytes of its map, with rubbish behind its end.
+    pub(crate) fn map(self, alloc: Global, size: u32) -> Result<Vec<u8>, AllocError> {
+        let mut map = Space::SavedMap.rubbish(alloc, size)?;
+        for (byte, first) in map.iter_mut().zip((0..self.file.length).step_by(8)) {
+            *byte = self.map_byte(first);
+        }
+        Ok(map)
     }
-    b
-}
 
-// A byte moved down by one, with a bit at the high end.
-fn moved(b: u8, set: bool) -> u8 {
-    if set { b / 2 + 128 } else { b / 2 }
+    // So many bytes of its buffer, with rubbish where nothing is held.
+    pub(crate) fn buffer(self, alloc: Global, size: u32) -> Result<Vec<u8>, AllocError> {
+        (0..size)
+            .map(|p| {
+                if p < self.file.length && self.holds(p) {
+                    file_byte(p)
+                } else {
+                    Space::SavedBuffer.byte(p)
+                }
+            })
+            .collect(alloc)
+    }
 }
 
 // The byte of the made-up file at a position: ABCDEFGHEF and on.
-fn file_byte(p: usize) -> u8 {
-    let q = p % 65536;
-    ((q % 8 + q / 8 * 4 + q / 16 * 37 + q / 256 * 11 + 65) % 256) as u8
+fn file_byte(p: u32) -> u8 {
+    let p = u64::from(p);
+    ((p % 8 + p / 8 * 4 + p / 16 * 37 + p / 256 * 11 + 65) % 256) as u8
 }
 
-// The byte of a space at a place, by what the space is filled with.
-fn byte(h: Held, at: usize, kind: usize) -> u8 {
-    if (kind == HELD_MAP) & (at < made::map_size(h.length)) {
-        return map_byte(h, at);
+// How many bytes of a map, of a buffer and of a target are lent.
+#[derive(Clone, Copy, Debug, PartialEq, Eq)]
+pub(crate) struct Lent {
+    pub(crate) map: u32,
+    pub(crate) buffer: u32,
+    pub(crate) target: u32,
+}
+
+impl Lent {
+    // What a file and its record need, and so many bytes more of each.
+    pub(crate) fn of(length: u32, more: u32) -> Lent {
+        let map = length.div_ceil(8).saturating_add(more);
+        Lent {
+            map,
+            buffer: length.saturating_add(more),
+            target: map.saturating_add(length).saturating_add(20),
+        }
     }
-    if kind != HELD_BUFFER {
-        return made::rubbish(at, kind);
-    }
-    if (at < h.length as usize) & holds(h, at) {
-        return file_byte(at);
-    }
-    made::rubbish(at, UNHELD)
-}
-
-// Fills a space.
-fn fill(bytes: &mut [u8], h: Held, kind: usize) {
-    let mut i = 0;
-    while i < bytes.len() {
-        bytes[i] = byte(h, i, kind);
-        i += 1;
-    }
-}
-
-// A space of which n bytes can be lent, filled there.
-pub(crate) fn filled(h: Held, n: usize, kind: usize) -> [u8; 73800] {
-    let mut bytes = [0; 73800];
-    fill(made::lent(&mut bytes, n), h, kind);
-    bytes
-}
-
-// A space of which n bytes can be lent, with rubbish there.
-pub(crate) fn rubbish(n: usize, kind: usize) -> [u8; 73800] {
-    let none = Held {
-        number: 0,
-        length: 0,
-        pattern: NONE,
-        set: false,
-    };
-    filled(none, n, kind)
-}
-
-// Whether a space still has its rubbish from a place on.
-pub(crate) fn kept(bytes: &[u8], from: usize, kind: usize) -> bool {
-    let mut kept = true;
-    let mut i = from;
-    while i < bytes.len() {
-        kept = kept & (bytes[i] == made::rubbish(i, kind));
-        i += 1;
-    }
-    kept
-}
-
-// A size less one.
-pub(crate) fn less(n: usize) -> usize {
-    if n == 0 { 0 } else { n - 1 }
 }

@@ -13,51 +13,19 @@ mod picks;
 mod reads;
 mod request_runs;
 mod tables;
-mod texts;
-mod writers;
 
-// The series of cases.
-const PLACES: u8 = 0;
-
-const FAULTS: u8 = 1;
-
-const SIZES: u8 = 2;
-
-const VALUES: u8 = 3;
-
-const DAMAGES: u8 = 4;
-
-const HOLES: u8 = 5;
+use std::io;
 
 // What the library writes and what it reads.
-fn main() {
-    request_runs::all();
-    reads::back();
-    each(PLACES, 24);
-    fills::lengths();
-    each(FAULTS, 169);
-    each(SIZES, 288);
-    each(VALUES, 1024);
-    each(DAMAGES, 225);
-    each(HOLES, 16);
-    picks::all();
-}
-
-// All cases of a series.
-fn each(series: u8, cases: usize) {
-    for c in 0..cases {
-        case(series, c);
-    }
-}
-
-// The case of a series with a number.
-fn case(series: u8, c: usize) {
-    match series {
-        PLACES => fills::place(c),
-        FAULTS => fills::fault(c),
-        SIZES => tables::size(c),
-        VALUES => tables::value(c),
-        DAMAGES => damages::case(c),
-        _ => damages::hole(c),
-    }
+fn main(rt: HostRuntime) -> io::Result<()> {
+    request_runs::all(&rt)?;
+    reads::back(&rt)?;
+    fills::places(&rt)?;
+    fills::lengths(&rt)?;
+    fills::faults(&rt)?;
+    tables::sizes(&rt)?;
+    tables::values(&rt)?;
+    damages::faults(&rt)?;
+    damages::holes(&rt)?;
+    picks::all(&rt)
 }

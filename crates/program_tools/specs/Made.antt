@@ -1,22 +1,12 @@
 -- What the builders of the trial programs answer.
 -- Assumes nothing.
-use Rattle.std.specs.Prelude.{ℕ, suc, ◌+◌, ◌*◌, ◌%◌, ◌^◌, Bool, cond, ◌||◌, List, [], ◌∷◌, take, replicate, ◌==◌, bit_xor, slice_index, slice_set}
+use Rattle.std.specs.Prelude.{ℕ, suc, ◌+◌, ◌*◌, ◌%◌, ◌^◌, cond, List, [], ◌∷◌, take, replicate, ◌==◌, bit_xor, slice_index, slice_set}
 use Rattle.octets.specs.Numbers.{number_at, bytes_of}
 use Rattle.octets.specs.Runs.{has_room, put_in}
-use Rattle.program_tools.specs.declared.made.Bytes.{Bytes}
-use Rattle.program_tools.specs.declared.faults.Faults.{Faults}
-
--- the same bytes, of which n are the first
-abbrev pub cut_to : Bytes → ℕ → Bytes
-cut_to m n = record { bytes = m.bytes; size = n }
 
 -- a list with a run written at a place, where there is room for it
 abbrev pub put_where : List ℕ → ℕ → List ℕ → List ℕ
 put_where bytes at run = cond (has_room bytes at run) (put_in bytes at run) bytes
-
--- the same of bytes that are made
-abbrev pub with_run : Bytes → ℕ → List ℕ → Bytes
-with_run m at run = record { bytes = put_where m.bytes at run; size = m.size }
 
 -- the sum that the lines show, with one number more
 abbrev pub summed_with : ℕ → ℕ → ℕ
@@ -62,11 +52,3 @@ left_of c told map buffer =
 -- the byte of rubbish of a kind at a place
 abbrev pub rubbish_at : ℕ → ℕ → ℕ
 rubbish_at at kind = (at % 65536 * 157 + kind % 256 * 73 + 91) % 256
-
--- whether a fault is one of the two
-abbrev pub is_among : Faults → ℕ → Bool
-is_among f fault = f.first == fault || f.second == fault
-
--- the second of two numbers where a fault is one of the two, else the first
-abbrev pub chosen : Faults → ℕ → ℕ → ℕ → ℕ
-chosen f fault right wrong = cond (is_among f fault) wrong right

@@ -1,13 +1,12 @@
-// What the trial programs share: printers, builders of bytes, pairs of faults, and the lines and cells of cases.
+// What the trial programs share: bytes that are made, faults that are planted, what lines show, and cases by name.
 //
-// The printers, all of `say`, `faults::names` and `lines::end`, write to standard output. No contract can say what is
-// written, so they promise nothing but to be safe and to end, for all arguments; what the programs write by them is
-// compared with their stored output. Every other function promises what it answers and what it leaves (`specs/Made.antt`,
-// `specs/Lines.antt`), also where it prints beside that, as `lines::next` and `lines::answered` do.
+// `cases::run` reads standard input and writes standard output. No contract can say what is read and written, so it
+// promises nothing but to be safe and to end; what the programs write by it is compared with their stored output. Every other
+// function promises what it answers and what it leaves (`specs/Made.antt`, `specs/Planted.antt`, `specs/Cases.antt`), and
+// what is shown its text (`specs/Show.antt`).
 #![tactic(auto)]
 
-pub mod cells;
-pub mod faults;
-pub mod lines;
+pub mod cases;
 pub mod made;
-pub mod say;
+pub mod planted;
+pub mod show;

@@ -1,50 +1,14 @@
-// Builders: parts of a space, a byte or a run changed, and what the lines and the cases are made of. Every function
-// answers for all arguments.
+// Builders: parts of a space, a byte changed, sums and counts that the lines show, and what the cases are made of. Every
+// function answers for all arguments.
 ghost use Rattle.std.specs.Prelude.{◌≡◌, ◌+◌, ◌/◌, ◌++◌, take, drop};
 ghost use Rattle.octets.specs.Numbers.{bytes_of};
-ghost use Rattle.program_tools.specs.Made.{cut_to, with_run, summed_with, sum_from, turned, and_one, changed_from, map_by, buffer_by, rubbish_at};
-
-// Bytes that are made: the first `size` of `bytes`, and what lies behind them.
-#[derive(Clone, Copy)]
-pub struct Bytes {
-    pub bytes: [u8; 640],
-    pub size: usize,
-}
-
-// The same bytes, of which n are the first.
-pub fn cut(m: Bytes, n: usize) -> Bytes
-    ensures { result ≡ cut_to m n }
-{
-    let bytes = m.bytes;
-    Bytes { bytes, size: n }
-}
-
-// A run written over what stands at a place, where there is room for it.
-pub fn with(m: Bytes, at: usize, run: &[u8]) -> Bytes
-    ensures { result ≡ with_run m at run.now }
-{
-    let mut bytes = m.bytes;
-    let size = m.size;
-    octets::put(&mut bytes, at, run);
-    Bytes { bytes, size }
-}
-
-// A number of four bytes written over what stands at a place, where there is room for it.
-pub fn with_number(m: Bytes, at: usize, number: u32) -> Bytes
-    ensures { result ≡ with_run m at (bytes_of 4 number) }
-{
-    let run = octets::bytes4(number);
-    with(m, at, &run)
-}
+ghost use Rattle.program_tools.specs.Made.{summed_with, sum_from, turned, changed_from, map_by, buffer_by, rubbish_at};
 
 // The first n bytes of a space, all of them where there are not so many.
 pub fn first(bytes: &[u8], n: usize) -> &[u8]
     ensures { result.now ≡ take n bytes.now }
 {
-    if n > bytes.len() {
-        return bytes;
-    }
-    &bytes[..n]
+    bytes.get(..n).unwrap_or(bytes)
 }
 
 // The same of a space that is lent to be written.
@@ -61,10 +25,7 @@ pub fn lent(bytes: &mut [u8], n: usize) -> &mut [u8]
 pub fn behind(bytes: &[u8], from: usize) -> &[u8]
     ensures { result.now ≡ drop from bytes.now }
 {
-    if from > bytes.len() {
-        return &bytes[..0];
-    }
-    &bytes[from..]
+    bytes.get(from..).unwrap_or(&[])
 }
 
 // Turns bits over in the byte at a place, where there is one.
@@ -72,7 +33,7 @@ pub fn turn(bytes: &mut [u8], at: usize, bits: u8)
     ensures { bytes.new ≡ turned bytes.old at bits }
 {
     if at < bytes.len() {
-        bytes[at] = bytes[at] ^ bits;
+        bytes[at] ^= bits;
     }
 }
 
@@ -80,20 +41,9 @@ pub fn turn(bytes: &mut [u8], at: usize, bits: u8)
 pub fn sum(bytes: &[u8]) -> u32
     ensures { result ≡ sum_from 0 bytes.now }
 {
-    let mut total = 0;
-    let mut i = 0;
-    while i < bytes.len() {
-        total = and_byte(total, bytes[i]);
-        i += 1;
-    }
-    total
-}
-
-// The sum with one byte more.
-fn and_byte(total: u32, b: u8) -> u32
-    ensures { result ≡ summed_with total b }
-{
-    summed(total, b as u32)
+    bytes
+        .iter()
+        .fold(0, |total, byte| summed(total, u32::from(*byte)))
 }
 
 // The sum with one number more.
@@ -107,32 +57,22 @@ pub fn summed(total: u32, more: u32) -> u32
 pub fn changed(bytes: &[u8], before: &[u8]) -> u32
     ensures { result ≡ changed_from 0 0 bytes.now before.now }
 {
-    let mut count = 0;
-    let mut i = 0;
-    while i < bytes.len() {
-        count = and_one(count, bytes[i], octets::byte(before, i));
-        i += 1;
+    let mut count = 0u32;
+    for (at, byte) in bytes.iter().enumerate() {
+        if *byte != octets::byte(before, at) {
+            count = count.wrapping_add(1);
+        }
     }
     count
-}
-
-// A count, with one more where two bytes differ.
-fn and_one(count: u32, a: u8, b: u8) -> u32
-    ensures { result ≡ and_one count a b }
-{
-    if a == b {
-        return count;
-    }
-    std::num::wrapping_add_u32(count, 1)
 }
 
 // A map by its first three bytes, as one number, and each other byte.
 pub fn map(bits: u32, rest: u32) -> [u8; 4200]
     ensures { result ≡ map_by bits rest }
 {
-    let three = octets::bytes3(bits);
-    let mut map = [(rest % 256) as u8; 4200];
-    octets::put(&mut map, 0, &three);
+    let [byte, ..] = rest.to_le_bytes();
+    let mut map = [byte; 4200];
+    octets::put(&mut map, 0, &octets::bytes::<3>(u64::from(bits)));
     map
 }
 
@@ -147,6 +87,7 @@ pub fn buffer(place: u32) -> [u8; 33000]
 }
 
 // The byte of rubbish at a place; rubbish of another kind has other bytes.
+// Kept: a remainder and a cast, since products that wrap byte by byte say the same in four calls.
 pub fn rubbish(at: usize, kind: usize) -> u8
     ensures { result ≡ rubbish_at at kind }
 {
@@ -157,18 +98,14 @@ pub fn rubbish(at: usize, kind: usize) -> u8
 pub fn map_size(l: u32) -> usize
     ensures { result ≡ (l + 7) / 8 }
 {
-    ((l as usize) + 7) / 8
+    (l as usize).div_ceil(8)
 }
 
 // The five bytes of a hole in a request: the lowest three of its start, and two of its length.
 pub fn hole(start: u32, length: u32) -> [u8; 5]
     ensures { result ≡ bytes_of 3 start ++ bytes_of 2 length }
 {
-    [
-        (start % 256) as u8,
-        (start / 256 % 256) as u8,
-        (start / 256 / 256 % 256) as u8,
-        (length % 256) as u8,
-        (length / 256 % 256) as u8,
-    ]
+    let [low, middle, high] = octets::bytes::<3>(u64::from(start));
+    let [short, long] = octets::bytes::<2>(u64::from(length));
+    [low, middle, high, short, long]
 }

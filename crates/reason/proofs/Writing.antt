@@ -3,31 +3,33 @@
 use mathlib.Core.Path.{◌≡◌, refl, sym, ap, ◌∙◌}
 use mathlib.Core.List.{List}
 use Prim.Native.Nat.{ℕ}
-use Rattle.reason.specs.declared.Outcome.{Outcome}
-use Rattle.reason.specs.declared.Outcome.TheVariants.{Accepted, Refused}
-use Rattle.reason.specs.Answer.{Answer, accepted, refused, telling, leaving, outcome, Writes, WritesAndTells}
+use Rattle.std.specs.Prelude.{Result, Ok, Err}
+use Rattle.reason.specs.declared.Reason.{Reason}
+use Rattle.reason.specs.Reasons.{number_of}
+use Rattle.reason.specs.Answer.{Answer, accepted, refused, telling, leaving, answer_of, Writes, WritesAndTells}
 use Rattle.reason.proofs.OnlyOne.{only_one_written}
 
 module _ (lent : List ℕ) (made : Answer (List ℕ)) (left : List ℕ) where
   -- the promise, where what the operation makes is known: one law, and its two cases
-  writes_by : (a : Answer (List ℕ)) (r : Outcome) → made ≡ a → outcome r ≡ telling (λ (x : List ℕ). tt) a → left ≡ leaving (λ (x : List ℕ). x) lent a
+  writes_by : (a : Answer (List ℕ)) (r : Result Unit Reason) → made ≡ a → answer_of r ≡ telling (λ (x : List ℕ). tt) a → left ≡ leaving (λ (x : List ℕ). x) lent a
       → Writes lent made r left
   writes_by a r e o l = record { answers = o ∙ sym (ap (telling (λ (x : List ℕ). tt)) e); bytes = l ∙ sym (ap (leaving (λ (x : List ℕ). x) lent) e) }
 
-  pub writes_refused : (n : ℕ) → made ≡ refused n → left ≡ lent → Writes lent made (Refused n) left
-  writes_refused n e l = writes_by (refused n) (Refused n) e refl l
+  pub writes_refused : (reason : Reason) → made ≡ refused (number_of reason) → left ≡ lent → Writes lent made (Err reason) left
+  writes_refused reason e l = writes_by (refused (number_of reason)) (Err reason) e refl l
 
-  pub writes_accepted : (new : List ℕ) → made ≡ accepted new → left ≡ new → Writes lent made Accepted left
-  writes_accepted new e l = writes_by (accepted new) Accepted e refl l
+  pub writes_accepted : (new : List ℕ) → made ≡ accepted new → left ≡ new → Writes lent made (Ok tt) left
+  writes_accepted new e l = writes_by (accepted new) (Ok tt) e refl l
 
 -- what is written and told where the operation is known to accept, and where it is known to refuse
-pub when_accepted : (lent : List ℕ) (made : Answer (List ℕ)) (r : Outcome) (left new : List ℕ) → Writes lent made r left
-    → made ≡ accepted new → (r ≡ Accepted) × (left ≡ new)
-when_accepted lent made r left new w e = only_one_written lent made r Accepted left new w (writes_accepted lent made new new e refl)
+pub when_accepted : (lent : List ℕ) (made : Answer (List ℕ)) (r : Result Unit Reason) (left new : List ℕ) → Writes lent made r left
+    → made ≡ accepted new → (r ≡ Ok tt) × (left ≡ new)
+when_accepted lent made r left new w e = only_one_written lent made r (Ok tt) left new w (writes_accepted lent made new new e refl)
 
-pub when_refused : (lent : List ℕ) (made : Answer (List ℕ)) (r : Outcome) (left : List ℕ) (n : ℕ) → Writes lent made r left
-    → made ≡ refused n → (r ≡ Refused n) × (left ≡ lent)
-when_refused lent made r left n w e = only_one_written lent made r (Refused n) left lent w (writes_refused lent made lent n e refl)
+pub when_refused : (lent : List ℕ) (made : Answer (List ℕ)) (r : Result Unit Reason) (left : List ℕ) (reason : Reason)
+    → Writes lent made r left → made ≡ refused (number_of reason) → (r ≡ Err reason) × (left ≡ lent)
+when_refused lent made r left reason w e =
+    only_one_written lent made r (Err reason) left lent w (writes_refused lent made lent reason e refl)
 
 -- the promise of a writer that tells values, where its answer is known
 module _ {A : Type 0} (lent : List ℕ) (answer : Answer A) (made : A → List ℕ) (left : List ℕ) where

@@ -1,8 +1,8 @@
 -- What an operation answers (01, "Numbered reasons"), and what it leaves in the bytes that it was lent.
 -- Assumes nothing.
-use Rattle.std.specs.Prelude.{◌≡◌, Bool, true, false, List, ℕ}
-use Rattle.reason.specs.declared.Outcome.{Outcome}
-use Rattle.reason.specs.declared.Outcome.TheVariants.{Accepted, Refused}
+use Rattle.std.specs.Prelude.{◌≡◌, Bool, true, false, List, ℕ, Result, Ok, Err}
+use Rattle.reason.specs.declared.Reason.{Reason}
+use Rattle.reason.specs.Reasons.{number_of}
 
 -- the values of an accepted operation, or the number of the reason and no other value
 pub data Answer (A : Type 0) : Type 0 where
@@ -24,15 +24,15 @@ abbrev pub leaving : {A L : Type 0} → (A → L) → L → Answer A → L
 leaving f lent (accepted a) = f a
 leaving f lent (refused n) = lent
 
--- the paper's number and values for each case of an `Outcome`
-abbrev pub outcome : Outcome → Answer Unit
-outcome Accepted = accepted tt
-outcome (Refused n) = refused n
+-- the paper's number and values for each case of a function's result
+abbrev pub answer_of : {A : Type 0} → Result A Reason → Answer A
+answer_of (Ok a) = accepted a
+answer_of (Err reason) = refused (number_of reason)
 
 -- The promise of an operation that writes to one lent list and has no value to tell. `made` is the list that it makes of
 -- `lent`, or its refusal; `r` is what the function answers and `left` is what it leaves.
-pub record Writes (lent : List ℕ) (made : Answer (List ℕ)) (r : Outcome) (left : List ℕ) : Type 0 where
-  pub answers : outcome r ≡ telling (λ l. tt) made
+pub record Writes (lent : List ℕ) (made : Answer (List ℕ)) (r : Result Unit Reason) (left : List ℕ) : Type 0 where
+  pub answers : answer_of r ≡ telling (λ l. tt) made
   pub bytes : left ≡ leaving (λ l. l) lent made
 
 -- The promise of an operation that writes to one lent list and tells values. `answer` is its definition's answer, and `made` the list that

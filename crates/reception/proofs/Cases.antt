@@ -5,17 +5,17 @@ use mathlib.Core.Bool.{true, false}
 use mathlib.Core.List.{List, [], ◌∷◌, ◌++◌}
 use Prim.Native.Nat.{ℕ}
 use lib.ListN.{replicate}
-use Rattle.reason.specs.Answer.{accepted, refused}
+use Rattle.std.specs.Prelude.{Ok, Err}
+use Rattle.reason.specs.declared.Reason.TheVariants.{Differs}
+use Rattle.reason.specs.Answer.{accepted, refused, answer_of}
 use Rattle.reason.specs.Order.{first_of}
 use Rattle.positions.specs.Spans.{every, count}
 use Rattle.positions.specs.Map.{bit, held, bits_from, map_of}
 use Rattle.reception.specs.Reception.{Reception, PieceData}
-use Rattle.reception.specs.Adding.{added_answer}
 use Rattle.reception.specs.Opening.{opening, opened}
 use Rattle.reception.specs.Taking.{taking, taken}
 use Rattle.reception.specs.Joining.{joining, joined}
 use Rattle.reception.specs.Held.{held_of, held_count}
-use Rattle.reception.specs.declared.Added.TheVariants as added
 
 -- a piece of file 7
 abbrev piece : ℕ → List ℕ → PieceData
@@ -156,8 +156,8 @@ pub record Cases : Type 0 where
   pub held_65536 : held_count 65536 lent_map ≡ 14
   pub held_in_longer_map : held_count 24 lent_map ≡ 10
   -- the paper's number and values of each answer
-  pub added_accepted : added_answer (added.Accepted 6) ≡ accepted 6
-  pub added_refused : added_answer (added.Refused 11) ≡ refused 11
+  pub added_accepted : answer_of {A = ℕ} (Ok 6) ≡ accepted 6
+  pub added_refused : answer_of {A = ℕ} (Err Differs) ≡ refused 11
   -- longer lent space: a repeat, any order, a piece of another file, a piece beyond the end
   pub five_pieces_map : after_five.map ≡ 0x0F ∷ 0x03 ∷ 0x00 ∷ 0xA5 ∷ []
   pub five_pieces_buffer : after_five.buffer ≡ buffer20 ++ 0x96 ∷ 0x97 ∷ []

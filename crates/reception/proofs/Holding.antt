@@ -9,7 +9,7 @@ use native.Mathlib.Omega.{arith}
 use lib.Dec.{eqb, leb, ltb}
 use lib.ListN.{length, take, drop, replicate, length-append, length-replicate, length-drop, get_or-replicate, get_or-append}
 use lib.Seq.{get_or-take, get_or-drop, get_or-append-add, length-take-le, ext_get_or}
-use borrow.Author.Tests.{eq-eqb, eqb-true, eqb-false, leb-true, leb-false, le-ltb}
+use Rattle.std.proofs.lemmas.Bool.{eq-eqb, eqb-true, eqb-false, leb-true, leb-false, le-ltb, or_from}
 use Rattle.reason.specs.Answer.{accepted, refused}
 use Rattle.reason.proofs.Bools.{and_left, and_right, and_both, le_or_lt}
 use Rattle.octets.specs.Numbers.{byte_at, AllBytes}
@@ -20,13 +20,13 @@ use Rattle.positions.proofs.SpanLaws.{in_span, span_low, span_high, all_if, coun
 use Rattle.positions.proofs.MapLaws.{empty_byte, same_byte, map_long, map_bytes, held_map}
 use Rattle.reception.specs.Reception.{Reception, PieceData, wrong_length, short_space}
 use Rattle.reception.specs.Adding.{Offer, of_piece, of_reception, offered, agrees_at, agrees, is_new, new_in, after}
-use Rattle.reception.specs.Opening.{cleared, opened}
+use Rattle.reception.specs.Opening.{cleared, opening, opened}
 use Rattle.reception.specs.Taking.{taking, taken}
 use Rattle.reception.specs.Joining.{joining, joined}
 use Rattle.reception.specs.Fitting.{fits, covers, AgreesWith}
 use Rattle.reception.specs.Contents.{HoldsOf, itself}
 use Rattle.reception.proofs.OfferLaws.{enough_space, piece_below, second_below}
-use Rattle.reception.proofs.GivenReasons.{takes_9, takes_10, takes, joins}
+use Rattle.reception.proofs.GivenReasons.{opens, takes_9, takes_10, takes, joins}
 
 -- ---- a reception is determined by what it holds
 module _ (number l : ℕ) (file : List ℕ) where
@@ -124,9 +124,6 @@ agreed true true x y e = eq-eqb y x (e refl refl)
 agreed true false x y e = refl
 agreed false h x y e = refl
 
-neither : (a b : Bool) → a ≡ false → b ≡ false → (a || b) ≡ false
-neither a b d e = rw (d, e)
-
 module _ (number l : ℕ) (file : List ℕ) (S : ℕ → Bool) (s : Reception) (h : HoldsOf number l file S s) (o : Offer)
     (inside : (p : ℕ) → l ≤ p → offered o p ≡ false) (right : (p : ℕ) → offered o p ≡ true → o.byte p ≡ byte_at file p) where
   in_file : (p : ℕ) → offered o p ≡ true → p < l
@@ -153,7 +150,7 @@ module _ (number l : ℕ) (file : List ℕ) (S : ℕ → Bool) (s : Reception) (
             rw (values_long (λ p. cond (within o.start o.size p && is_new s o p) (o.byte p) (byte_at s.buffer p)) 0 (length s.buffer))
             h.buffer_long;
         map_bytes = map_bytes (λ p. held s.map p || offered o p) (length s.map);
-        below = λ p k. neither (S p) (offered o p) (h.below p k) (inside p k);
+        below = λ p k. or_from (S p) (offered o p) (h.below p k) (inside p k);
         holds =
             λ p k. held_map (λ q. held s.map q || offered o q) (length s.map) p (omega (arith, longer))
             ∙ ap (λ (b : Bool). b || offered o p) (h.holds p k);
@@ -172,7 +169,7 @@ module _ (number l : ℕ) (file : List ℕ) (S : ℕ → Bool) (s : Reception) (
   pub space_enough : short_space s.length s.map s.buffer ≡ false
   space_enough =
       ap (λ (k : ℕ). short_space k s.map s.buffer) h.sized
-      ∙ neither (ltb (length s.map) (map_size l)) (ltb (length s.buffer) l) (le-ltb (length s.map) (map_size l) h.map_long) (le-ltb (length s.buffer) l h.buffer_long)
+      ∙ or_from (ltb (length s.map) (map_size l)) (ltb (length s.buffer) l) (le-ltb (length s.map) (map_size l) h.map_long) (le-ltb (length s.buffer) l h.buffer_long)
 
 -- ---- taking a piece in
 pub fits_inside : (number l : ℕ) (x : PieceData) → fits number l x ≡ true → x.offset + length x.bytes ≤ l
@@ -180,6 +177,9 @@ fits_inside number l x fit =
     leb-true (x.offset + length x.bytes) l (and_right (eqb number x.number) (leb (x.offset + length x.bytes) l) fit)
 
 module _ (number l : ℕ) (file : List ℕ) (ok : wrong_length l ≡ false) (S : ℕ → Bool) (s : Reception) (h : HoldsOf number l file S s) (x : PieceData) where
+  room : opening s.length s.map s.buffer ≡ accepted tt
+  room = opens s.length s.map s.buffer (length_right number l file S s h ok) (space_enough number l file S s h)
+
   all_offered : (p : ℕ) → offered (of_piece x) p ≡ within x.offset (length x.bytes) p
   all_offered p = and-true (within x.offset (length x.bytes) p)
 
@@ -204,8 +204,7 @@ module _ (number l : ℕ) (file : List ℕ) (ok : wrong_length l ≡ false) (S :
 
     pub fitting_is_taken : taking s x ≡ accepted (new_in s (of_piece x))
     fitting_is_taken =
-        takes s x (length_right number l file S s h ok) (space_enough number l file S s h) same_number (let e =
-        ends_inside in let f = h.sized in omega (arith, e, f))
+        takes s x room same_number (let e = ends_inside in let f = h.sized in omega (arith, e, f))
         (ap not (offer_agrees number l file S s h (of_piece x) below_end file_bytes))
 
     fitting_holds : HoldsOf number l file (λ p. S p || covers number l x p) (taken s x)
@@ -220,13 +219,12 @@ module _ (number l : ℕ) (file : List ℕ) (ok : wrong_length l ≡ false) (S :
     by_number : (b : Bool) → eqb number x.number ≡ b → (n : ℕ) × (taking s x ≡ refused n)
     by_number false e = (
       9,
-      takes_9 s x (length_right number l file S s h ok) (space_enough number l file S s h)
-          (λ d. eqb-false number x.number e (sym h.numbered ∙ d)),
+      takes_9 s x room (λ d. eqb-false number x.number e (sym h.numbered ∙ d)),
     )
     by_number true e =
         let k = leb-false (x.offset + length x.bytes) l (sym (ap (λ (b : Bool). b && leb (x.offset + length x.bytes) l) e) ∙ unfit) in
         let f = h.sized in
-        (10, takes_10 s x (length_right number l file S s h ok) (space_enough number l file S s h) (h.numbered ∙ eqb-true number x.number e) (omega (arith, k, f)))
+        (10, takes_10 s x room (h.numbered ∙ eqb-true number x.number e) (omega (arith, k, f)))
 
     pub unfitting_is_refused : (n : ℕ) × (taking s x ≡ refused n)
     unfitting_is_refused = by_number (eqb number x.number) refl
@@ -271,8 +269,7 @@ module _ (number l : ℕ) (file : List ℕ) (ok : wrong_length l ≡ false) (S T
   -- no join of two receptions of one file is refused, and its count is of the positions that only the second holds
   pub join_accepted : joining s t ≡ accepted (count (λ p. T p && not (S p)) 0 l)
   join_accepted =
-      joins s t (neither (wrong_length s.length) (wrong_length t.length) (length_right number l file S s h ok) (length_right number l file T t k ok))
-      (neither (short_space s.length s.map s.buffer) (short_space t.length t.map t.buffer) (space_enough number l file S s h) (space_enough number l file T t k))
+      joins s t (length_right number l file S s h ok) (length_right number l file T t k ok) (space_enough number l file S s h) (space_enough number l file T t k)
       (and_both (eqb s.number t.number) (eqb s.length t.length) (eq-eqb s.number t.number (h.numbered ∙ sym k.numbered)) (eq-eqb s.length t.length (h.sized ∙ sym k.sized)))
       (offer_agrees number l file S s h (of_reception t) below_length file_bytes_of)
       ∙ ap accepted (ap (count (is_new s (of_reception t)) 0) k.sized

@@ -1,6 +1,6 @@
 -- How adding an offer meets its promise: refused, or accepted with the map and the buffer of the definition.
 -- Assumes nothing.
-use mathlib.Core.Path.{◌≡◌, refl, sym, ap, ◌∙◌}
+use mathlib.Core.Path.{◌≡◌, refl, ap, ◌∙◌}
 use mathlib.Core.Bool.{Bool, true, false, ◌&&◌, ◌||◌, or-false}
 use mathlib.Core.List.{List}
 use Prim.Native.Nat.{ℕ, ◌+◌, ◌*◌, ◌≤◌, ◌<◌}
@@ -8,6 +8,9 @@ use native.Mathlib.Omega.{arith}
 use lib.Dec.{leb, ltb}
 use lib.ListN.{length}
 use borrow.Author.Tests.{leb-true, ltb-false, not-false}
+use Rattle.std.specs.Prelude.{Ok, Err}
+use Rattle.reason.specs.declared.Reason.{Reason}
+use Rattle.reason.specs.Reasons.{number_of}
 use Rattle.reason.specs.Answer.{Answer, accepted, refused}
 use Rattle.reason.proofs.Bools.{and_left, and_right, or_none}
 use Rattle.positions.specs.Map.{held, map_size}
@@ -15,7 +18,6 @@ use Rattle.positions.proofs.SpanLaws.{behind_span}
 use Rattle.positions.proofs.MapLaws.{held_map}
 use Rattle.reception.specs.Reception.{Reception, PieceData, longest, wrong_length, short_map, short_space}
 use Rattle.reception.specs.Adding.{Offer, of_piece, of_reception, offered, map_with, buffer_with, Adds}
-use Rattle.reception.specs.declared.Added.TheVariants.{Accepted, Refused}
 
 -- ---- what the first two tests say
 pub right_length : (l : ℕ) → wrong_length l ≡ false → (1 ≤ l) × (l ≤ longest)
@@ -30,15 +32,12 @@ enough_space l map buffer e =
 
 -- ---- the promise
 module _ (s : Reception) (o : Offer) (answer : Answer ℕ) (map buffer : List ℕ) where
-  pub adds_refused : (n : ℕ) → answer ≡ refused n → map ≡ s.map → buffer ≡ s.buffer → Adds s o answer (Refused n) map buffer
-  adds_refused n e m b = rw e record { answers = refl; leaves_map = m; leaves_buffer = b }
-
-  pub adds_accepted : (n : ℕ) → answer ≡ accepted n → map ≡ map_with s o → buffer ≡ buffer_with s o → Adds s o answer (Accepted n) map buffer
-  adds_accepted n e m b = rw e record { answers = refl; leaves_map = m; leaves_buffer = b }
+  pub adds_refused : (reason : Reason) → answer ≡ refused (number_of reason) → map ≡ s.map → buffer ≡ s.buffer → Adds s o answer (Err reason) map buffer
+  adds_refused reason e m b = rw e record { answers = refl; leaves_map = m; leaves_buffer = b }
 
   -- .. where what is answered is the count of the definition
-  pub adds_counted : (k n : ℕ) → answer ≡ accepted k → n ≡ k → map ≡ map_with s o → buffer ≡ buffer_with s o → Adds s o answer (Accepted n) map buffer
-  adds_counted k n e c m b = adds_accepted n (e ∙ ap accepted (sym c)) m b
+  pub adds_counted : (k n : ℕ) → answer ≡ accepted k → n ≡ k → map ≡ map_with s o → buffer ≡ buffer_with s o → Adds s o answer (Ok n) map buffer
+  adds_counted k n e c m b = rw (c, e) record { answers = refl; leaves_map = m; leaves_buffer = b }
 
 -- ---- what is not offered, and what it leaves
 pub piece_below : (x : PieceData) (l p : ℕ) → x.offset + length x.bytes ≤ l → l ≤ p → offered (of_piece x) p ≡ false

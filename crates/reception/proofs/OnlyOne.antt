@@ -1,48 +1,38 @@
 -- No second answer meets a promise of this crate, and no other bytes in a lent map or buffer.
 -- Assumes nothing.
-use mathlib.Core.Path.{◌≡◌, refl}
+use mathlib.Core.Path.{◌≡◌}
 use mathlib.Core.Bool.{Bool}
 use mathlib.Core.List.{List}
 use Prim.Native.Nat.{ℕ}
-use Rattle.reason.specs.declared.Outcome.{Outcome}
-use Rattle.reason.specs.Answer.{Answer, accepted, refused}
-use Rattle.reason.proofs.OnlyOne.{only_one, only_one_meant, one_outcome}
-use Rattle.reception.specs.declared.Added.{Added}
-use Rattle.reception.specs.declared.Added.TheVariants as added
+use Rattle.std.specs.Prelude.{Result}
+use Rattle.reason.specs.declared.Reason.{Reason}
+use Rattle.reason.specs.Answer.{Answer}
+use Rattle.reason.proofs.OnlyOne.{only_one, only_one_answer}
 use Rattle.positions.specs.Map.{map_size}
 use Rattle.reception.specs.Reception.{Reception, PieceData, wrong_length, short_map, short_space}
-use Rattle.reception.specs.Adding.{Offer, added_answer, Adds}
+use Rattle.reception.specs.Adding.{Offer, Adds}
 use Rattle.reception.specs.Opening.{Opens}
 use Rattle.reception.specs.Taking.{Takes}
 use Rattle.reception.specs.Joining.{Joins}
 use Rattle.reception.specs.Held.{held_of, held_count}
 
 -- `open`
-pub only_one_open : (l : ℕ) (map buffer : List ℕ) (r q : Outcome) (m m' b b' : List ℕ) → Opens l map buffer r m b → Opens l map buffer q m' b'
+pub only_one_open : (l : ℕ) (map buffer : List ℕ) (r q : Result Unit Reason) (m m' b b' : List ℕ) → Opens l map buffer r m b → Opens l map buffer q m' b'
     → (r ≡ q) × (m ≡ m') × (b ≡ b')
 only_one_open l map buffer r q m m' b b' d e =
-    (one_outcome r q d.answers e.answers, only_one m m' d.leaves_map e.leaves_map, only_one b b' d.leaves_buffer e.leaves_buffer)
+    (only_one_answer r q d.answers e.answers, only_one m m' d.leaves_map e.leaves_map, only_one b b' d.leaves_buffer e.leaves_buffer)
 
 -- `take` and `join`
-added_case : Answer ℕ → Added
-added_case (accepted n) = added.Accepted n
-added_case (refused n) = added.Refused n
-
-added_back : (r : Added) → added_case (added_answer r) ≡ r
-unfolding added_case
-added_back (added.Accepted n) = refl
-added_back (added.Refused n) = refl
-
-pub only_one_added : (s : Reception) (o : Offer) (a : Answer ℕ) (r q : Added) (m m' b b' : List ℕ) → Adds s o a r m b → Adds s o a q m' b'
+pub only_one_added : (s : Reception) (o : Offer) (a : Answer ℕ) (r q : Result ℕ Reason) (m m' b b' : List ℕ) → Adds s o a r m b → Adds s o a q m' b'
     → (r ≡ q) × (m ≡ m') × (b ≡ b')
 only_one_added s o a r q m m' b b' d e =
-    (only_one_meant added_answer added_case added_back r q d.answers e.answers, only_one m m' d.leaves_map e.leaves_map, only_one b b' d.leaves_buffer e.leaves_buffer)
+    (only_one_answer r q d.answers e.answers, only_one m m' d.leaves_map e.leaves_map, only_one b b' d.leaves_buffer e.leaves_buffer)
 
-pub only_one_take : (s : Reception) (x : PieceData) (r q : Added) (m m' b b' : List ℕ) → Takes s x r m b → Takes s x q m' b'
+pub only_one_take : (s : Reception) (x : PieceData) (r q : Result ℕ Reason) (m m' b b' : List ℕ) → Takes s x r m b → Takes s x q m' b'
     → (r ≡ q) × (m ≡ m') × (b ≡ b')
 only_one_take s x r q m m' b b' d e = only_one_added s _ _ r q m m' b b' d e
 
-pub only_one_join : (s t : Reception) (r q : Added) (m m' b b' : List ℕ) → Joins s t r m b → Joins s t q m' b'
+pub only_one_join : (s t : Reception) (r q : Result ℕ Reason) (m m' b b' : List ℕ) → Joins s t r m b → Joins s t q m' b'
     → (r ≡ q) × (m ≡ m') × (b ≡ b')
 only_one_join s t r q m m' b b' d e = only_one_added s _ _ r q m m' b b' d e
 

@@ -2,12 +2,11 @@
 -- at every position already held, and each position that is new is held afterwards, with its byte. What that means under a
 -- map and a buffer stands in `runs`, specs/Offers.
 -- Assumes nothing.
-use Rattle.std.specs.Prelude.{◌≡◌, Bool, List, ℕ}
-use Rattle.reason.specs.Answer.{Answer, accepted, refused, leaving}
+use Rattle.std.specs.Prelude.{◌≡◌, Bool, List, ℕ, Result}
+use Rattle.reason.specs.declared.Reason.{Reason}
+use Rattle.reason.specs.Answer.{Answer, leaving, answer_of}
 use Rattle.runs.specs.Offers as offers
 use Rattle.reception.specs.Reception.{Reception, PieceData}
-use Rattle.reception.specs.declared.Added.{Added}
-use Rattle.reception.specs.declared.Added.TheVariants.{Accepted, Refused}
 
 -- an offer: of some positions one after the other, those that it has, each with its byte
 abbrev pub Offer : Type 0
@@ -58,13 +57,8 @@ after s o answer = record {
   buffer = leaving (λ n. buffer_with s o) s.buffer answer;
 }
 
--- the paper's number and values for each case of an `Added`: the count of newly held positions, or the reason
-abbrev pub added_answer : Added → Answer ℕ
-added_answer (Accepted n) = accepted n
-added_answer (Refused n) = refused n
-
 -- The promise of an operation that adds an offer to a reception: what it answers, and what it leaves in the lent map and buffer.
-pub record Adds (s : Reception) (o : Offer) (answer : Answer ℕ) (r : Added) (map buffer : List ℕ) : Type 0 where
-  pub answers : added_answer r ≡ answer
+pub record Adds (s : Reception) (o : Offer) (answer : Answer ℕ) (r : Result ℕ Reason) (map buffer : List ℕ) : Type 0 where
+  pub answers : answer_of r ≡ answer
   pub leaves_map : map ≡ (after s o answer).map
   pub leaves_buffer : buffer ≡ (after s o answer).buffer

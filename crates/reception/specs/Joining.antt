@@ -1,11 +1,11 @@
 -- Joining a second reception into a first (01, "Reception").
 -- Assumes nothing.
-use Rattle.std.specs.Prelude.{not, ◌&&◌, ◌||◌, List, [], ◌∷◌, ℕ, eqb}
+use Rattle.std.specs.Prelude.{not, ◌&&◌, ◌||◌, List, [], ◌∷◌, ℕ, eqb, Result}
+use Rattle.reason.specs.declared.Reason.{Reason}
 use Rattle.reason.specs.Answer.{Answer}
 use Rattle.reason.specs.Order.{Check, check, first_of}
 use Rattle.reception.specs.Reception.{Reception, wrong_length, short_space}
 use Rattle.reception.specs.Adding.{of_reception, agrees, new_in, after, Adds}
-use Rattle.reception.specs.declared.Added.{Added}
 
 -- "Joining: 7 and 12 (each for either reception), 9, 11"; 9 is for the number or the length
 abbrev pub joining_checks : Reception → Reception → List Check
@@ -28,5 +28,5 @@ abbrev pub joined : Reception → Reception → Reception
 joined s t = after s (of_reception t) (joining s t)
 
 -- The promise of `join`: what it answers, and what it leaves in the lent map and buffer of the first.
-abbrev pub Joins : Reception → Reception → Added → List ℕ → List ℕ → Type 0
+abbrev pub Joins : Reception → Reception → Result ℕ Reason → List ℕ → List ℕ → Type 0
 Joins s t r map buffer = Adds s (of_reception t) (joining s t) r map buffer

@@ -1,8 +1,8 @@
 -- Opening a reception (01, "Reception"): the map and the buffer are cleared.
 -- Assumes nothing.
-use Rattle.std.specs.Prelude.{◌≡◌, List, [], ◌∷◌, ◌++◌, ℕ, drop, replicate}
-use Rattle.reason.specs.declared.Outcome.{Outcome}
-use Rattle.reason.specs.Answer.{Answer, outcome, leaving}
+use Rattle.std.specs.Prelude.{◌≡◌, List, [], ◌∷◌, ◌++◌, ℕ, drop, replicate, Result}
+use Rattle.reason.specs.declared.Reason.{Reason}
+use Rattle.reason.specs.Answer.{Answer, answer_of, leaving}
 use Rattle.reason.specs.Order.{Check, check, first_of}
 use Rattle.positions.specs.Map.{map_size}
 use Rattle.reception.specs.Reception.{Reception, wrong_length, short_space}
@@ -31,7 +31,7 @@ abbrev pub opened : ℕ → ℕ → List ℕ → List ℕ → Reception
 opened number l map buffer = record { number = number; length = l; map = opened_map l map; buffer = opened_buffer l buffer }
 
 -- The promise of `open`: what it answers, and what it leaves in the lent map and buffer.
-pub record Opens (l : ℕ) (map buffer : List ℕ) (r : Outcome) (map' buffer' : List ℕ) : Type 0 where
-  pub answers : outcome r ≡ opening l map buffer
+pub record Opens (l : ℕ) (map buffer : List ℕ) (r : Result Unit Reason) (map' buffer' : List ℕ) : Type 0 where
+  pub answers : answer_of r ≡ opening l map buffer
   pub leaves_map : map' ≡ leaving (λ u. opened_map l map) map (opening l map buffer)
   pub leaves_buffer : buffer' ≡ leaving (λ u. opened_buffer l buffer) buffer (opening l map buffer)

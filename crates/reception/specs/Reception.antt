@@ -2,6 +2,9 @@
 -- Assumes nothing.
 use Rattle.std.specs.Prelude.{Bool, not, ◌&&◌, ◌||◌, List, ℕ, leb, ltb, length}
 use Rattle.positions.specs.Map.{map_size}
+use Rattle.reception.specs.declared.File.{File}
+use Rattle.reception.specs.declared.Data.{Data}
+use Rattle.reception.specs.declared.Reception as declared
 
 -- the longest file
 abbrev pub longest : ℕ
@@ -19,6 +22,16 @@ pub record PieceData : Type 0 where
   pub number : ℕ
   pub offset : ℕ
   pub bytes : List ℕ
+
+-- what is lent: a file's reception in a map and a buffer; one that is lent to be read; the data of a piece
+abbrev pub lent_for : File → List ℕ → List ℕ → Reception
+lent_for file map buffer = record { number = file.number; length = file.length; map = map; buffer = buffer }
+
+abbrev pub lent_in : declared.Reception → Reception
+lent_in t = lent_for t.file t.map.now t.buffer.now
+
+abbrev pub data_in : Data → PieceData
+data_in x = record { number = x.number; offset = x.offset; bytes = x.bytes.now }
 
 -- reason 7: the length is not 1 to 32,768
 abbrev pub wrong_length : ℕ → Bool

@@ -1,11 +1,11 @@
 -- Taking a piece in (01, "Reception"). That the frame was a piece is read before, and has its own reasons.
 -- Assumes nothing.
-use Rattle.std.specs.Prelude.{Bool, not, List, [], ◌∷◌, ℕ, ◌+◌, ltb, eqb, length}
+use Rattle.std.specs.Prelude.{Bool, not, List, [], ◌∷◌, ℕ, ◌+◌, ltb, eqb, length, Result}
+use Rattle.reason.specs.declared.Reason.{Reason}
 use Rattle.reason.specs.Answer.{Answer}
 use Rattle.reason.specs.Order.{Check, check, first_of}
 use Rattle.reception.specs.Reception.{Reception, PieceData, wrong_length, short_space}
 use Rattle.reception.specs.Adding.{of_piece, agrees, new_in, after, Adds}
-use Rattle.reception.specs.declared.Added.{Added}
 
 -- reason 11: the piece differs from what is held
 abbrev pub disagrees : Reception → PieceData → Bool
@@ -33,5 +33,5 @@ abbrev pub taken : Reception → PieceData → Reception
 taken s x = after s (of_piece x) (taking s x)
 
 -- The promise of `take`: what it answers, and what it leaves in the lent map and buffer.
-abbrev pub Takes : Reception → PieceData → Added → List ℕ → List ℕ → Type 0
+abbrev pub Takes : Reception → PieceData → Result ℕ Reason → List ℕ → List ℕ → Type 0
 Takes s x r map buffer = Adds s (of_piece x) (taking s x) r map buffer

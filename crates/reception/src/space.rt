@@ -1,23 +1,25 @@
 // The length of a file and the space that is lent for it.
 ghost use Rattle.std.specs.Prelude.{◌≡◌, ◌≤◌, length};
+ghost use Rattle.reason.specs.Answer.{answer_of};
 ghost use Rattle.positions.specs.Map.{map_size};
 ghost use Rattle.reception.specs.Reception.{wrong_length, short_map, short_space};
-ghost use Rattle.reception.specs.Opening.{cleared};
+ghost use Rattle.reception.specs.Opening.{cleared, opening};
 
 use super::LONGEST;
+use reason::Reason;
 
 // Reason 7: whether a length is not 1 to 32,768.
 pub fn wrong_length(l: u32) -> bool
     ensures { result ≡ wrong_length l }
 {
-    !((1 <= l) & (l <= LONGEST))
+    !(1..=LONGEST).contains(&l)
 }
 
 // How many bytes the map of a file of a length has: L/8, rounded up.
 pub fn map_size(l: u32) -> usize
     ensures { result ≡ map_size l }
 {
-    ((l as usize) + 7) / 8
+    (l as usize).div_ceil(8)
 }
 
 // Reason 12: whether a map is too short for a file of a length.
@@ -31,7 +33,21 @@ pub fn short_map(l: u32, map: &[u8]) -> bool
 pub fn short(l: u32, map: &[u8], buffer: &[u8]) -> bool
     ensures { result ≡ short_space l map.now buffer.now }
 {
-    short_map(l, map) | (buffer.len() < (l as usize))
+    short_map(l, map) || buffer.len() < (l as usize)
+}
+
+// The first two reasons of an operation: refuses 7, 12.
+#[tactic(auto, unfolding(crate::specs::Opening::opening, reason::specs::Order::first_of))]
+pub(crate) fn room(l: u32, map: &[u8], buffer: &[u8]) -> Result<(), Reason>
+    ensures { answer_of result ≡ opening l map.now buffer.now }
+{
+    if wrong_length(l) {
+        return Err(Reason::Size);
+    }
+    if short(l, map, buffer) {
+        return Err(Reason::Space);
+    }
+    Ok(())
 }
 
 // The first n bytes become 0.
@@ -39,9 +55,5 @@ pub(crate) fn clear(bytes: &mut [u8], n: usize)
     requires { n ≤ length bytes.old }
     ensures { bytes.new ≡ cleared n bytes.old }
 {
-    let mut i = 0;
-    while i < n {
-        bytes[i] = 0;
-        i += 1;
-    }
+    bytes[..n].fill(0);
 }

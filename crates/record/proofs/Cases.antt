@@ -5,18 +5,18 @@ use mathlib.Core.Bool.{true}
 use mathlib.Core.List.{List, [], ◌∷◌, ◌++◌}
 use Prim.Native.Nat.{ℕ}
 use lib.ListN.{take, drop, set, replicate}
-use Rattle.reason.specs.Answer.{Answer, accepted, refused, leaving}
+use Rattle.std.specs.Prelude.{Ok, Err}
+use Rattle.reason.specs.declared.Reason.TheVariants.{Size, Space}
+use Rattle.reason.specs.Answer.{Answer, accepted, refused, answer_of, leaving}
 use Rattle.reason.specs.Order.{first_of}
 use Rattle.octets.specs.Runs.{put_in}
 use Rattle.positions.specs.Spans.{every}
 use Rattle.positions.specs.Map.{bit, held, bits_from, map_of}
 use Rattle.reception.specs.Reception.{Reception}
-use Rattle.record.specs.declared.Recorded.{Recorded}
-use Rattle.record.specs.declared.Saved.TheVariants as saved
-use Rattle.record.specs.declared.RecordRead.TheVariants as record_read
+use Rattle.reception.specs.declared.File.{File}
 use Rattle.record.specs.Record.{field, saved_map, saved_buffer, record_of, record_length}
-use Rattle.record.specs.Saving.{saving, saved_answer, Saves}
-use Rattle.record.specs.Reading.{map_in, buffer_in, is_record, read_record, map_read, record_answer}
+use Rattle.record.specs.Saving.{saving, Saves}
+use Rattle.record.specs.Reading.{map_in, buffer_in, is_record, read_record, map_read}
 use Rattle.record.specs.Loading.{loading, loaded_map, loaded_buffer, loaded, Loads}
 
 -- the input of the hole program in 01: number 7, length 20, held 0 to 3 and 8 to 9
@@ -46,7 +46,7 @@ abbrev rubbish : ℕ → List ℕ
 rubbish n = replicate n 9
 
 -- what loading answers, and leaves
-abbrev says : ℕ → ℕ → Answer Recorded
+abbrev says : ℕ → ℕ → Answer File
 says number l = accepted (record { number = number; length = l })
 
 abbrev left_map : List ℕ → List ℕ → List ℕ → List ℕ
@@ -92,8 +92,8 @@ pub record Cases : Type 0 where
   -- saving: 7, 12, on both sides and where two hold, and what is left in the target
   pub saves : saving kept (rubbish 43) ≡ accepted 43
   pub saves_in_longer : leaving (λ n. put_in (rubbish 45) 0 (record_of kept)) (rubbish 45) (saving kept (rubbish 45)) ≡ sample ++ 9 ∷ 9 ∷ []
-  pub save_promise : Saves kept (rubbish 45) (saved.Accepted 43) (sample ++ 9 ∷ 9 ∷ [])
-  pub save_promise_refused : Saves kept (rubbish 42) (saved.Refused 12) (rubbish 42)
+  pub save_promise : Saves kept (rubbish 45) (Ok 43) (sample ++ 9 ∷ 9 ∷ [])
+  pub save_promise_refused : Saves kept (rubbish 42) (Err Space) (rubbish 42)
   pub save_refused_leaves : leaving (λ n. put_in (rubbish 42) 0 (record_of kept)) (rubbish 42) (saving kept (rubbish 42)) ≡ rubbish 42
   pub save_length_0 : saving (sized 0 (1 ∷ []) (1 ∷ [])) (rubbish 43) ≡ refused 7
   pub save_length_1 : saving (sized 1 (1 ∷ []) (1 ∷ [])) (rubbish 22) ≡ accepted 22
@@ -164,8 +164,8 @@ pub record Cases : Type 0 where
   -- what loading leaves: spare bits cleared, what lies beyond as it was, and all of it where it refuses
   pub loaded_map_case : left_map sample (rubbish 5) (rubbish 22) ≡ 0x0F ∷ 0x03 ∷ 0x00 ∷ 9 ∷ 9 ∷ []
   pub loaded_buffer_case : left_buffer sample (rubbish 5) (rubbish 22) ≡ 0x41 ∷ 0x42 ∷ 0x43 ∷ 0x44 ∷ 0 ∷ 0 ∷ 0 ∷ 0 ∷ 0x45 ∷ 0x46 ∷ replicate 10 0 ++ 9 ∷ 9 ∷ []
-  pub load_promise : Loads sample (rubbish 5) (rubbish 22) (record_read.Accepted (record { number = 7; length = 20 })) (0x0F ∷ 0x03 ∷ 0x00 ∷ 9 ∷ 9 ∷ []) (0x41 ∷ 0x42 ∷ 0x43 ∷ 0x44 ∷ 0 ∷ 0 ∷ 0 ∷ 0 ∷ 0x45 ∷ 0x46 ∷ replicate 10 0 ++ 9 ∷ 9 ∷ [])
-  pub load_promise_refused : Loads sample (rubbish 2) (rubbish 20) (record_read.Refused 12) (rubbish 2) (rubbish 20)
+  pub load_promise : Loads sample (rubbish 5) (rubbish 22) (Ok (record { number = 7; length = 20 })) (0x0F ∷ 0x03 ∷ 0x00 ∷ 9 ∷ 9 ∷ []) (0x41 ∷ 0x42 ∷ 0x43 ∷ 0x44 ∷ 0 ∷ 0 ∷ 0 ∷ 0 ∷ 0x45 ∷ 0x46 ∷ replicate 10 0 ++ 9 ∷ 9 ∷ [])
+  pub load_promise_refused : Loads sample (rubbish 2) (rubbish 20) (Err Space) (rubbish 2) (rubbish 20)
   pub refused_12_map : left_map sample (rubbish 5) (rubbish 19) ≡ rubbish 5
   pub refused_12_buffer : left_buffer sample (rubbish 2) (rubbish 22) ≡ rubbish 22
   pub refused_13_map : left_map (take 42 sample) (rubbish 5) (rubbish 22) ≡ rubbish 5
@@ -181,10 +181,10 @@ pub record Cases : Type 0 where
   pub map_just_fits : map_read (says 7 208) sample ≡ drop 17 sample
   pub map_does_not_fit : map_read (says 7 209) sample ≡ []
   -- what an answer of each case means
-  pub saved_accepted : saved_answer (saved.Accepted 43) ≡ accepted 43
-  pub saved_refused : saved_answer (saved.Refused 7) ≡ refused 7
-  pub record_accepted : record_answer (record_read.Accepted (record { number = 7; length = 20 })) ≡ says 7 20
-  pub record_refused : record_answer (record_read.Refused 12) ≡ refused 12
+  pub saved_accepted : answer_of {A = ℕ} (Ok 43) ≡ accepted 43
+  pub saved_refused : answer_of {A = ℕ} (Err Size) ≡ refused 7
+  pub record_accepted : answer_of (Ok (record { number = 7; length = 20 })) ≡ says 7 20
+  pub record_refused : answer_of {A = File} (Err Space) ≡ refused 12
 
 pub cases : Cases
 unfolding first_of put_in every bit held bits_from map_of record_of saving is_record read_record loading

@@ -3,25 +3,27 @@
 use mathlib.Core.Path.{◌≡◌, refl, sym, ap, ap₂, ◌∙◌}
 use mathlib.Core.Bool.{Bool, true, false, cond, not, ◌&&◌, ◌||◌}
 use mathlib.Core.List.{List, [], ◌∷◌}
+use mathlib.Core.Logic.{⊎_elim}
 use Prim.Native.Nat.{ℕ, ◌+◌, ◌*◌, ◌≤◌}
 use native.Mathlib.Omega.{arith}
 use lib.Dec.{eqb, ltb}
 use lib.ListN.{length, drop, length-drop}
 use lib.Seq.{length-take-le}
 use borrow.Author.Tests.{eq-eqb, ne_eqb, eqb-true, ltb-false, le-leb, not-true, not-false}
+use Rattle.std.specs.Prelude.{Ok, Err}
+use Rattle.reason.specs.declared.Reason.{Reason}
+use Rattle.reason.specs.Reasons.{number_of}
 use Rattle.reason.specs.Answer.{accepted, refused, leaving}
 use Rattle.reason.specs.Order.{check}
 use Rattle.reason.proofs.Bools.{and_left, and_right, or_none}
-use Rattle.reason.proofs.OrderLaws.{accepted_only_if, skip, stop, none_left}
+use Rattle.reason.proofs.OrderLaws.{accepted_only_if, refused_only_if, skip, stop, none_left}
 use Rattle.reason.proofs.Writing.{tells_refused, tells_accepted}
 use Rattle.octets.specs.Runs.{put_in, Put}
 use Rattle.octets.proofs.RunLaws.{put_fits}
 use Rattle.positions.specs.Map.{map_size}
 use Rattle.reception.specs.Reception.{Reception, longest, wrong_length, short_space}
 use Rattle.reception.proofs.OfferLaws.{right_length, enough_space}
-use Rattle.record.specs.declared.Saved.TheVariants as saved
-use Rattle.record.specs.declared.Recorded.{Recorded}
-use Rattle.record.specs.declared.RecordRead.TheVariants.{Accepted, Refused}
+use Rattle.reception.specs.declared.File.{File}
 use Rattle.record.specs.Record.{record_of, map_at, buffer_at, record_length}
 use Rattle.record.specs.Reading.{length_in, map_in, buffer_in, fields_right, spare_clear, unheld_clear, is_record, recorded_in, read_record, map_read}
 use Rattle.record.specs.Saving.{saving, Saves}
@@ -156,20 +158,24 @@ module _ (s : List ℕ) where
   unfolding read_record
   reads e = skip 13 _ _ (ap not e) ∙ none_left (recorded_in s)
 
--- what an accepted record says, and that it is one
-pub read_says : (s : List ℕ) (r : Recorded) → read_record s ≡ accepted r → (is_record s ≡ true) × (r ≡ recorded_in s)
+-- what is refused is no record; and what an accepted record says, and that it is one
+pub not_read : (s : List ℕ) (n : ℕ) → read_record s ≡ refused n → (is_record s ≡ false) × (n ≡ 13)
+unfolding read_record
+not_read s n e = ⊎_elim (λ w. (not-true (is_record s) w.0, sym w.1)) (λ w. absurd w.1) (refused_only_if n (check (not (is_record s)) 13 ∷ []) (recorded_in s) e)
+
+pub read_says : (s : List ℕ) (r : File) → read_record s ≡ accepted r → (is_record s ≡ true) × (r ≡ recorded_in s)
 unfolding read_record
 read_says s r e =
     let all = accepted_only_if (check (not (is_record s)) 13 ∷ []) (recorded_in s) r e in
     (not-false (is_record s) all.0.0, all.1)
 
 -- its map, as it is handed out
-pub map_handed_out : (s : List ℕ) (r : Recorded) → read_record s ≡ accepted r → map_read (accepted r) s ≡ map_in s
+pub map_handed_out : (s : List ℕ) (r : File) → read_record s ≡ accepted r → map_read (accepted r) s ≡ map_in s
 map_handed_out s r e =
     let is = read_says s r e in
     let f = is_formed s is.0 in
     let fits : map_at + map_size (length_in s) ≤ length s = omega (arith, f.long) in
-    ap (λ (x : Recorded). map_read (accepted x) s) is.1
+    ap (λ (x : File). map_read (accepted x) s) is.1
     ∙ ap (λ (b : Bool). cond b (map_in s) []) (le-leb (map_at + map_size (length_in s)) (length s) fits)
 
 -- ---- saving
@@ -192,11 +198,11 @@ module _ (s : Reception) (target : List ℕ) where
     saves e = skip 7 _ _ right ∙ skip 12 _ _ e ∙ none_left (record_length s.length)
 
   -- how `save` meets its promise
-  pub saves_refused : (n : ℕ) → saving s target ≡ refused n → Saves s target (saved.Refused n) target
-  saves_refused n e = tells_refused target (saving s target) (λ n. put_in target 0 (record_of s)) target n e refl
+  pub saves_refused : (reason : Reason) → saving s target ≡ refused (number_of reason) → Saves s target (Err reason) target
+  saves_refused reason e = tells_refused target (saving s target) (λ n. put_in target 0 (record_of s)) target (number_of reason) e refl
 
   -- .. where it accepts
-  pub saves_accepted : (n : ℕ) (left : List ℕ) → saving s target ≡ accepted n → left ≡ put_in target 0 (record_of s) → Saves s target (saved.Accepted n) left
+  pub saves_accepted : (n : ℕ) (left : List ℕ) → saving s target ≡ accepted n → left ≡ put_in target 0 (record_of s) → Saves s target (Ok n) left
   saves_accepted n left e l = tells_accepted target (saving s target) (λ n. put_in target 0 (record_of s)) left n e l
 
 -- the room of a reception and of a target
@@ -226,23 +232,23 @@ module _ (s map buffer : List ℕ) where
     loads e = skip 13 _ _ (ap not formed) ∙ skip 12 _ _ e ∙ none_left (recorded_in s)
 
   -- how `load` meets its promise
-  pub loads_refused : (n : ℕ) → loading s map buffer ≡ refused n → Loads s map buffer (Refused n) map buffer
-  loads_refused n e = record {
+  pub loads_refused : (reason : Reason) → loading s map buffer ≡ refused (number_of reason) → Loads s map buffer (Err reason) map buffer
+  loads_refused reason e = record {
     answers = sym e;
-    leaves_map = sym (ap (leaving (λ (x : Recorded). loaded_map s map) map) e);
-    leaves_buffer = sym (ap (leaving (λ (x : Recorded). loaded_buffer s buffer) buffer) e);
+    leaves_map = sym (ap (leaving (λ (x : File). loaded_map s map) map) e);
+    leaves_buffer = sym (ap (leaving (λ (x : File). loaded_buffer s buffer) buffer) e);
   }
 
   -- .. where it accepts, by the two runs that it puts
-  pub loads_accepted : is_record s ≡ true → short_space (length_in s) map buffer ≡ false → (x : Recorded) → x ≡ recorded_in s
+  pub loads_accepted : is_record s ≡ true → short_space (length_in s) map buffer ≡ false → (x : File) → x ≡ recorded_in s
       → (m b : List ℕ) → m ≡ part_by s map_at (map_size x.length) → b ≡ part_by s (buffer_at x.length) x.length
-      → (r q : Bool) (map' buffer' : List ℕ) → Put map 0 m r map' → Put buffer 0 b q buffer' → Loads s map buffer (Accepted x) map' buffer'
+      → (r q : Bool) (map' buffer' : List ℕ) → Put map 0 m r map' → Put buffer 0 b q buffer' → Loads s map buffer (Ok x) map' buffer'
   loads_accepted formed room x is m b by_m by_b r q map' buffer' p t =
       let e = loads formed room in
       let f = is_formed s formed in
       let w = enough_space (length_in s) map buffer room in
       let j = f.long in
-      let l : x.length ≡ length_in s = ap (λ (y : Recorded). y.length) is in
+      let l : x.length ≡ length_in s = ap (λ (y : File). y.length) is in
       let is_m : m ≡ map_in s = by_m ∙ map_by_is s x.length l (omega (arith, j, l)) in
       let is_b : b ≡ buffer_in s = by_b ∙ buffer_by_is s x.length l (omega (arith, j, l)) in
       let i : length m ≡ map_size (length_in s) = ap length is_m ∙ map_in_long s (omega (arith, j)) in
@@ -251,9 +257,9 @@ module _ (s map buffer : List ℕ) where
         leaves_map =
             (put_fits map 0 m r map' p (omega (arith, w, i))).1
             ∙ ap (put_in map 0) is_m
-            ∙ sym (ap (leaving (λ (x : Recorded). loaded_map s map) map) e);
+            ∙ sym (ap (leaving (λ (x : File). loaded_map s map) map) e);
         leaves_buffer =
             (put_fits buffer 0 b q buffer' t (omega (arith, w, k))).1
             ∙ ap (put_in buffer 0) is_b
-            ∙ sym (ap (leaving (λ (x : Recorded). loaded_buffer s buffer) buffer) e);
+            ∙ sym (ap (leaving (λ (x : File). loaded_buffer s buffer) buffer) e);
       }

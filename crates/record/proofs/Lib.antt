@@ -1,6 +1,7 @@
 pub mod Cases
 pub mod ReadSteps
 pub mod PutLaws
+pub mod PositionLaws
 pub mod RecordLaws
 pub mod GivenAnswers
 pub mod SavedLaws

@@ -3,14 +3,13 @@
 use mathlib.Core.Path.{◌≡◌, refl, sym, ap, ap₂, ◌∙◌}
 use mathlib.Core.Bool.{Bool, true, false, cond, ◌&&◌}
 use mathlib.Core.Logic.{⊎_elim}
-use mathlib.Core.List.{List, [], ◌∷◌}
-use Prim.Native.Nat.{ℕ, ◌+◌, ◌-◌, ◌*◌, ◌/◌, ◌%◌, ◌^◌, ◌≤◌, ◌<◌}
+use mathlib.Core.List.{List, [], ◌∷◌, ◌++◌}
+use Prim.Native.Nat.{ℕ, zero, suc, ◌+◌, ◌-◌, ◌*◌, ◌%◌, ◌^◌, ◌≤◌, ◌<◌}
 use mir.Val.{bool_byte}
-use native.Mathlib.Nat.{zero-add, mod-le, mod-lt, mod-eq_of_lt, lt_of_lt_of_le}
-use native.Mathlib.Numerals.{unary_clauses}
+use native.Mathlib.Nat.{zero-add, add-zero, add-suc, suc-add, mod-le, mod-lt, mod-eq_of_lt, lt_of_lt_of_le}
 use native.Mathlib.Omega.{arith}
 use lib.Bits.{bit_and, and_mask, and_zero_r}
-use lib.ListN.{length, set, take}
+use lib.ListN.{length, set, take, drop}
 use lib.Pow.{pow_pos, pow_mono}
 use lib.Seq.{length-take-le, get_or-take, ext_get_or}
 use borrow.Author.Tests.{eqb-true, eqb-false, lt-ltb, le-ltb}
@@ -18,13 +17,12 @@ use Rattle.reason.proofs.Bools.{le_or_lt}
 use Rattle.octets.specs.Numbers.{byte_at, AllBytes}
 use Rattle.octets.specs.Values.{values_from}
 use Rattle.octets.specs.Runs.{put_in, Put}
-use Rattle.octets.proofs.ValueLaws.{value_at, values_long, values_alike}
-use Rattle.octets.proofs.RunLaws.{put_fits, put_length, put_nothing, put_one, put_values}
+use Rattle.octets.proofs.ValueLaws.{value_at, values_long}
+use Rattle.octets.proofs.RunLaws.{put_fits, put_copied, put_length, put_one, put_values}
 use Rattle.positions.specs.Map.{bit, is_set, held, bits_from}
 use Rattle.positions.proofs.BitLaws.{bit_lt, bits_ext, bits_below, bit_from, set_low, set_high}
 use Rattle.positions.proofs.MapLaws.{held_in, full_set}
 use Rattle.reception.specs.Held.{held_of}
-use Rattle.positions.proofs.MapLaws.{bit_of}
 use Rattle.record.specs.Inner.{byte_saved}
 
 -- ---- written into a list
@@ -38,6 +36,17 @@ pub put_all : (f : ℕ → ℕ) (out : List ℕ) (at i n : ℕ) (run : List ℕ)
     → Put out at run r left → left ≡ put_in out at (values_from f i n)
 put_all f out at i n run r left h is p = let a = values_long f i n in (put_fits out at (values_from f i n) r left (rw is at p) (omega (arith, a))).1
 
+-- a run that is copied over the part of a list that it has
+pub copied : (out : List ℕ) (at k : ℕ) (run part : List ℕ) → at + length run ≤ length out → k ≡ length run → part ≡ run
+    → take at out ++ (part ++ drop k (drop at out)) ≡ put_in out at run
+copied out at k run part h e d = (put_fits out at run true _ (put_copied out at k run part h e d) h).1
+
+-- the first of them
+pub values_take : (f : ℕ → ℕ) (i n k : ℕ) → n ≤ k → take n (values_from f i k) ≡ values_from f i n
+values_take f i zero k h = refl
+values_take f i (suc n) zero h = absurd (omega arith)
+values_take f i (suc n) (suc k) h = ap (λ (l : List ℕ). f i ∷ l) (values_take f (suc i) n k (omega arith))
+
 -- one value more behind the n that are written
 pub put_value : (f : ℕ → ℕ) (out : List ℕ) (at i n : ℕ) (so_far : List ℕ) → so_far ≡ put_in out at (values_from f i n)
     → (v : ℕ) → at + n < length out → v ≡ f (i + n) → set so_far (at + n) v ≡ put_in out at (values_from f i (n + 1))
@@ -46,24 +55,6 @@ put_value f out at i n so_far is v h e =
     put_one so_far (at + n) v (omega arith)
     ∙ ap₂ (λ (l : List ℕ) (x : ℕ). put_in l (at + n) (x ∷ [])) is e
     ∙ put_values f out at i n 1 (omega arith)
-
--- .. as a loop meets it: n values are written, and the list is as long as it was
-abbrev pub SoFar : (ℕ → ℕ) → List ℕ → ℕ → ℕ → ℕ → List ℕ → Type 0
-SoFar f out at i n so_far = (so_far ≡ put_in out at (values_from f i n)) × (length so_far ≡ length out)
-
-pub so_far_none : (f : ℕ → ℕ) (out : List ℕ) (at i : ℕ) → SoFar f out at i 0 out
-so_far_none f out at i = (sym (put_nothing out at), refl)
-
-pub so_far_more : (f : ℕ → ℕ) (out : List ℕ) (at i n : ℕ) (so_far : List ℕ) → SoFar f out at i n so_far
-    → (v : ℕ) → at + n < length out → v ≡ f (i + n) → SoFar f out at i (n + 1) (set so_far (at + n) v)
-so_far_more f out at i n so_far is v h e =
-    let all = put_value f out at i n so_far is.0 v h e in
-    (all, same_long f out at i (n + 1) (set so_far (at + n) v) (omega arith) all)
-
--- eight values, made one by one
-pub eight_values : (f : ℕ → ℕ) (i a b c d e g h k : ℕ) → a ≡ f i → b ≡ f (i + 1) → c ≡ f (i + 2) → d ≡ f (i + 3) → e ≡ f (i + 4) → g ≡ f (i + 5)
-    → h ≡ f (i + 6) → k ≡ f (i + 7) → (a ∷ b ∷ c ∷ d ∷ e ∷ g ∷ h ∷ k ∷ []) ≡ values_from f i 8
-eight_values f i a b c d e g h k r0 r1 r2 r3 r4 r5 r6 r7 = rw (r0, r1, r2, r3, r4, r5, r6, r7) (simp unary_clauses refl)
 
 -- the values of positions from 0 on, as a loop meets them: those below p are written
 module _ (f : ℕ → ℕ) (out : List ℕ) (at p : ℕ) (so_far : List ℕ) (is : so_far ≡ put_in out at (values_from f 0 p)) where
@@ -120,36 +111,41 @@ whole_bytes l m n b h g =
     get_or-take n m i 0 j ∙ whole_byte l m i (b i) (omega arith) ∙ sym (value_at (λ i. bits_from (held_of l m) (i * 8) 8) 0 n i j))
 
 -- ---- the buffer of a file, unheld bytes as zero
--- .. of the first n positions of a map byte, by their bits
-saved_byte : (m b : List ℕ) (from n : ℕ) → from % 8 ≡ 0 → n ≤ 8
-    → values_from (byte_saved (byte_at m (from / 8)) b from) from n ≡ values_from (λ p. cond (held m p) (byte_at b p) 0) from n
-saved_byte m b from n a few =
-    values_alike (byte_saved (byte_at m (from / 8)) b from) (λ p. cond (held m p) (byte_at b p) 0) from n
-    (λ q l g. ap (λ (w : Bool). cond w (byte_at b q) 0) (bit_of m from q a l (omega arith)))
-
--- .. behind those of the positions before it
-pub saved_run_more : (m b out : List ℕ) (at p : ℕ) (so_far : List ℕ) → so_far ≡ put_in out at (values_from (λ q. cond (held m q) (byte_at b q) 0) 0 p)
-    → p % 8 ≡ 0 → (n : ℕ) → n ≤ 8 → at + p + n ≤ length out
-    → (after : List ℕ) → after ≡ put_in so_far (at + p) (values_from (byte_saved (byte_at m (p / 8)) b p) p n)
-    → after ≡ put_in out at (values_from (λ q. cond (held m q) (byte_at b q) 0) 0 (p + n))
-saved_run_more m b out at p so_far is a n few h after next =
-    put_run_more (λ q. cond (held m q) (byte_at b q) 0) out at p so_far is n after h (next ∙ ap (put_in so_far (at + p)) (saved_byte m b p n a few))
-
 -- one byte, masked by its bit
-pub mask_most : (w : Bool) → 255 * bool_byte w < 256
-mask_most true = omega arith
-mask_most false = omega arith
-
-masked : (x : ℕ) (w : Bool) → x < 256 → bit_and x (255 * bool_byte w) ≡ cond w x 0
+pub masked : (x : ℕ) (w : Bool) → x < 256 → bit_and x (255 * bool_byte w) ≡ cond w x 0
 masked x true h = and_mask x 8 ∙ mod-eq_of_lt h
 masked x false h = and_zero_r x
 
-pub byte_masked : (b : ℕ) (d : List ℕ) (from p : ℕ) → byte_at d p < 256 → (w : Bool) → w ≡ is_set b (p - from)
-    → bit_and (byte_at d p) (255 * bool_byte w) ≡ byte_saved b d from p
-byte_masked b d from p h w e = masked (byte_at d p) w h ∙ ap (λ (v : Bool). cond v (byte_at d p) 0) e
-
 -- those of a full byte are the bytes as they are
-pub full_saved : (b : ℕ) (d : List ℕ) (from : ℕ) → b ≡ 255 → values_from (byte_at d) from 8 ≡ values_from (byte_saved b d from) from 8
-full_saved b d from e =
-    values_alike (byte_at d) (byte_saved b d from) from 8
-    (λ p l h. sym (ap (λ (w : Bool). cond w (byte_at d p) 0) (full_set b (p - from) e (omega arith))))
+pub full_saved : (b : ℕ) (eight : List ℕ) → b ≡ 255 → length eight ≡ 8 → eight ≡ values_from (byte_saved b eight) 0 8
+full_saved b eight e long =
+    ext_get_or 0 eight (values_from (byte_saved b eight) 0 8) (long ∙ sym (values_long (byte_saved b eight) 0 8))
+    (λ k h.
+    let g : k < 8 = omega (arith, long) in
+    ap (λ (w : Bool). cond w (byte_at eight k) 0) (sym (full_set b k e g)) ∙ sym (value_at (byte_saved b eight) 0 8 k g))
+
+-- values that are the same one by one, though from other places on
+values_moved : (f g : ℕ → ℕ) (i j n : ℕ) → ((k : ℕ) → k < n → f (i + k) ≡ g (j + k)) → values_from f i n ≡ values_from g j n
+values_moved f g i j zero e = refl
+values_moved f g i j (suc n) e =
+    ap₂ ◌∷◌ (ap f (sym (add-zero i)) ∙ e 0 (omega arith) ∙ ap g (add-zero j))
+    (values_moved f g (suc i) (suc j) n
+    (λ k h. ap f (suc-add i k ∙ sym (add-suc i k)) ∙ e (suc k) (omega arith) ∙ ap g (add-suc j k ∙ sym (suc-add j k))))
+
+-- the bytes of the first n positions of map byte i
+eight_saved : (m b eight : List ℕ) (i n : ℕ) → n ≤ 8 → ((k : ℕ) → k < n → byte_at eight k ≡ byte_at b (i * 8 + k))
+    → values_from (byte_saved (byte_at m i) eight) 0 n ≡ values_from (λ p. cond (held m p) (byte_at b p) 0) (i * 8) n
+eight_saved m b eight i n few same =
+    values_moved (byte_saved (byte_at m i) eight) (λ p. cond (held m p) (byte_at b p) 0) 0 (i * 8) n
+    (λ k h.
+    ap (byte_saved (byte_at m i) eight) (zero-add k)
+    ∙ ap₂ (λ (w : Bool) (x : ℕ). cond w x 0) (sym (held_in m i k (omega arith))) (same k h))
+
+-- .. behind those of the positions before them
+pub saved_run_more : (m b out : List ℕ) (at i : ℕ) (so_far : List ℕ) → so_far ≡ put_in out at (values_from (λ q. cond (held m q) (byte_at b q) 0) 0 (i * 8))
+    → (n : ℕ) → n ≤ 8 → at + i * 8 + n ≤ length out → (eight : List ℕ) → ((k : ℕ) → k < n → byte_at eight k ≡ byte_at b (i * 8 + k))
+    → (after : List ℕ) → after ≡ put_in so_far (at + i * 8) (values_from (byte_saved (byte_at m i) eight) 0 n)
+    → after ≡ put_in out at (values_from (λ q. cond (held m q) (byte_at b q) 0) 0 (i * 8 + n))
+saved_run_more m b out at i so_far is n few h eight same after next =
+    put_run_more (λ q. cond (held m q) (byte_at b q) 0) out at (i * 8) so_far is n after h
+    (next ∙ ap (put_in so_far (at + i * 8)) (eight_saved m b eight i n few same))

@@ -1,30 +1,31 @@
 -- Steps of reading a record: its parts, its spare bits, and its unheld bytes, a map byte at a time.
 -- Assumes nothing.
 use mathlib.Core.Path.{◌≡◌, refl, sym, ap, ap₂, ◌∙◌}
-use mathlib.Core.Bool.{Bool, true, false, cond, not, ◌&&◌, ◌||◌, true≢false}
+use mathlib.Core.Bool.{Bool, true, false, cond, not, ◌&&◌, ◌||◌, true≢false, and_assoc, and-true, or-true}
 use mathlib.Core.Logic.{⊎_elim}
 use mathlib.Core.List.{List, []}
-use Prim.Native.Nat.{ℕ, ◌+◌, ◌-◌, ◌*◌, ◌/◌, ◌%◌, ◌^◌, ◌≤◌, ◌<◌}
+use Prim.Native.Nat.{ℕ, zero, suc, ◌+◌, ◌-◌, ◌*◌, ◌/◌, ◌%◌, ◌^◌, ◌≤◌, ◌<◌}
 use native.Mathlib.Omega.{arith}
 use lib.Dec.{eqb}
-use lib.ListN.{length, take, drop}
+use lib.ListN.{length, get_or, take, drop, get_or-eq_default}
+use lib.Seq.{get_or-take, get_or-drop}
+use Rattle.std.specs.Simd.{first_chunks}
+use Rattle.std.specs.List.{range_with_len, list_all}
+use Rattle.std.proofs.lemmas.List.{drop-drop}
+use native.Mathlib.Nat.{zero-add, add-zero, add-suc, suc-add}
+use Rattle.octets.specs.Values.{values_from}
+use Rattle.octets.proofs.ValueLaws.{value_at}
 use borrow.Author.Tests.{eq-eqb, ne_eqb, eqb-false, le-leb, lt-leb, not-true}
 use Rattle.reason.proofs.Bools.{le_or_lt}
 use Rattle.octets.specs.Numbers.{byte_at}
 use Rattle.positions.specs.Spans.{every}
 use Rattle.positions.specs.Map.{bit, is_set, held, map_size}
 use Rattle.positions.proofs.BitLaws.{bit_lt, bits_ext, set_shr, set_none, set_high}
-use Rattle.positions.proofs.SpanLaws.{all_if, all_at, every_more, every_same, part_fails, no_between}
-use Rattle.positions.proofs.MapLaws.{held_by, full_set}
-use Rattle.positions.proofs.MapLaws.{bit_of}
-use Rattle.record.specs.declared.Recorded.{Recorded}
+use Rattle.positions.proofs.SpanLaws.{all_if, all_at, every_none, every_more, every_same, no_between}
+use Rattle.positions.proofs.MapLaws.{held_by, held_in, full_set}
 use Rattle.record.specs.Record.{map_at, buffer_at, record_length}
-use Rattle.record.specs.Reading.{number_in, length_in, part, map_in, buffer_in, spare_clear, unheld_clear, recorded_in}
+use Rattle.record.specs.Reading.{length_in, part, map_in, buffer_in, spare_clear, unheld_clear}
 use Rattle.record.specs.Inner.{part_by, clear_at}
-
--- what a record says, from its two numbers
-pub said : (s : List ℕ) (n l : ℕ) → n ≡ number_in s → l ≡ length_in s → ◌≡◌ {A = Recorded} (record { number = n; length = l }) (recorded_in s)
-said s n l d e = rw (d, e)
 
 -- four tests, each by what it is
 pub four : (a a' b b' c c' d d' : Bool) → a ≡ a' → b ≡ b' → c ≡ c' → d ≡ d' → (a && b && c && d) ≡ (a' && b' && c' && d')
@@ -107,39 +108,116 @@ module _ (l : ℕ) (m : List ℕ) (some : l % 8 ≡ 0 → ⊥) where
   pub spare_by_shift : last < 256 → last / 2 ^ (l % 8) < 256 → eqb (last / 2 ^ (l % 8)) 0 ≡ spare_clear l m
   spare_by_shift h g = zero_test (last / 2 ^ (l % 8)) (spare_clear l m) clear_if (clear_only h g)
 
+-- ---- eights of a buffer, and what is left
+-- a byte of the first l
+byte_below : (b : List ℕ) (l k : ℕ) → k < l → byte_at (take l b) k ≡ byte_at b k
+byte_below b l k h = get_or-take l b k 0 h
+
+chunk_at : (k i : ℕ) (s : List ℕ) → i < k → get_or (first_chunks 8 k s) i [] ≡ take 8 (drop (i * 8) s)
+chunk_at zero i s h = absurd (omega arith)
+chunk_at (suc k) zero s h = refl
+chunk_at (suc k) (suc i) s h =
+    let place : 8 + i * 8 ≡ suc i * 8 = omega arith in
+    chunk_at k i (drop 8 s) (omega arith) ∙ ap (take 8) (drop-drop (i * 8) 8 s ∙ ap (λ (j : ℕ). drop j s) place)
+
+-- a byte of the eight at i
+pub chunk_byte : (b : List ℕ) (l n i : ℕ) (eight : List ℕ) → i < n → i * 8 + 8 ≤ l → eight ≡ get_or (first_chunks 8 n (take l b)) i []
+    → (k : ℕ) → k < 8 → byte_at eight k ≡ byte_at b (i * 8 + k)
+chunk_byte b l n i eight h g is k few =
+    ap (λ (s : List ℕ). byte_at s k) (is ∙ chunk_at n i (take l b) h)
+    ∙ get_or-take 8 (drop (i * 8) (take l b)) k 0 few
+    ∙ get_or-drop (i * 8) (take l b) k 0
+    ∙ byte_below b l (i * 8 + k) (omega arith)
+
+-- a byte behind the eights, in a run of eight with zeros behind it
+pub rest_byte : (b : List ℕ) (l at : ℕ) (rest eight : List ℕ) → rest ≡ drop at (take l b) → eight ≡ values_from (byte_at rest) 0 8
+    → (k : ℕ) → k < 8 → at + k < l → byte_at eight k ≡ byte_at b (at + k)
+rest_byte b l at rest eight is from k few h =
+    ap (λ (s : List ℕ). byte_at s k) from
+    ∙ value_at (byte_at rest) 0 8 k few
+    ∙ ap (λ (s : List ℕ). byte_at s k) is
+    ∙ get_or-drop at (take l b) k 0
+    ∙ byte_below b l (at + k) h
+
 -- ---- the unheld bytes
 -- of a full byte every position is held
-pub full_clear : (b : ℕ) (d : List ℕ) (from p : ℕ) → b ≡ 255 → p < from + 8 → clear_at b d from p ≡ true
-full_clear b d from p e h = ap (λ (w : Bool). w || eqb (byte_at d p) 0) (full_set b (p - from) e (omega arith))
+pub full_clear : (b : ℕ) (eight : List ℕ) → b ≡ 255 → every (clear_at b eight) 0 8 ≡ true
+full_clear b eight e =
+    all_if (clear_at b eight) 0 8 (λ k _ h. ap (λ (w : Bool). w || eqb (byte_at eight k) 0) (full_set b k e (omega arith)))
 
 -- as a loop meets them: whether those so far are clear, and one more
-pub clear_more : (b : ℕ) (d : List ℕ) (from k : ℕ) (so_far here : Bool) → so_far ≡ every (clear_at b d from) from k → here ≡ clear_at b d from (from + k)
-    → (so_far && here) ≡ every (clear_at b d from) from (k + 1)
-clear_more b d from k so_far here e f = ap₂ ◌&&◌ e f ∙ every_more (clear_at b d from) from k
+pub clear_more : (b : ℕ) (eight : List ℕ) (k : ℕ) (so_far here : Bool) → so_far ≡ every (clear_at b eight) 0 k → here ≡ clear_at b eight k
+    → (so_far && here) ≡ every (clear_at b eight) 0 (k + 1)
+clear_more b eight k so_far here e f = ap₂ ◌&&◌ e (f ∙ ap (clear_at b eight) (sym (zero-add k))) ∙ every_more (clear_at b eight) 0 k
 
--- a byte of a map, for the first n of its positions
-module _ (m d : List ℕ) (from n : ℕ) (a : from % 8 ≡ 0) (few : n ≤ 8) where
-  clear_byte_is : every (clear_at (byte_at m (from / 8)) d from) from n ≡ every (λ p. held m p || eqb (byte_at d p) 0) from n
-  clear_byte_is =
-      every_same (clear_at (byte_at m (from / 8)) d from) (λ p. held m p || eqb (byte_at d p) 0) from n
-      (λ q l g. ap (λ (w : Bool). w || eqb (byte_at d q) 0) (bit_of m from q a l (omega arith)))
+-- spans, taken apart and moved
+every_join : (t : ℕ → Bool) (p n k : ℕ) → every t p (n + k) ≡ (every t p n && every t (p + n) k)
+unfolding every
+every_join t p zero k = rw (zero-add k, add-zero p)
+every_join t p (suc n) k =
+    rw (suc-add n k, every_join t (suc p) n k, suc-add p n, add-suc p n)
+    (sym (and_assoc (t p) (every t (suc p) n) (every t (suc (p + n)) k)))
 
-  -- where it fails, all fail
-  pub clear_fails : (l : ℕ) → from + n ≤ l → every (clear_at (byte_at m (from / 8)) d from) from n ≡ false → unheld_clear l m d ≡ false
-  clear_fails l h e =
-      part_fails (λ p. held m p || eqb (byte_at d p) 0) 0 l from n (omega arith) (omega arith) (sym clear_byte_is ∙ e)
+every_moved : (t : ℕ → Bool) (d p n : ℕ) → every t (d + p) n ≡ every (λ q. t (d + q)) p n
+unfolding every
+every_moved t d p zero = refl
+every_moved t d p (suc n) = ap (λ (b : Bool). t (d + p) && b) (ap (λ (q : ℕ). every t q n) (sym (add-suc d p)) ∙ every_moved t d (suc p) n)
 
-  module _ (before : (q : ℕ) → 0 ≤ q → q < from → (held m q || eqb (byte_at d q) 0) ≡ true) where
-    -- where it passes, the positions so far pass
-    pub clear_passes : every (clear_at (byte_at m (from / 8)) d from) from n ≡ true
-        → (q : ℕ) → 0 ≤ q → q < from + n → (held m q || eqb (byte_at d q) 0) ≡ true
-    clear_passes e q l g =
-        ⊎_elim
-        (λ h. all_at (λ p. held m p || eqb (byte_at d p) 0) from n (sym clear_byte_is ∙ e) q h g)
-        (λ h. before q l h)
-        (le_or_lt from q)
+-- position p of a map and a buffer is held, or its byte is zero
+abbrev clear_in : List ℕ → List ℕ → ℕ → Bool
+clear_in m d p = held m p || eqb (byte_at d p) 0
 
-    -- where it is the last, it decides
-    pub clear_last : (l : ℕ) → l ≡ from + n → (r : Bool) → r ≡ every (clear_at (byte_at m (from / 8)) d from) from n → r ≡ unheld_clear l m d
-    clear_last l is true e = sym (all_if (λ p. held m p || eqb (byte_at d p) 0) 0 l (λ q h g. clear_passes (sym e) q h (omega arith)))
-    clear_last l is false e = sym (clear_fails l (omega arith) (sym e))
+-- the first n positions of map byte i
+eight_clear : (m d eight : List ℕ) (i n : ℕ) → n ≤ 8 → ((k : ℕ) → k < n → byte_at eight k ≡ byte_at d (i * 8 + k))
+    → every (clear_at (byte_at m i) eight) 0 n ≡ every (clear_in m d) (i * 8) n
+eight_clear m d eight i n few same =
+    every_same (clear_at (byte_at m i) eight) (λ q. clear_in m d (i * 8 + q)) 0 n
+    (λ q _ h.
+    let g : q < n = omega arith in
+    ap₂ (λ (w : Bool) (x : ℕ). w || eqb x 0) (sym (held_in m i q (omega arith))) (same q g))
+    ∙ sym (every_moved (clear_in m d) (i * 8) 0 n)
+    ∙ ap (λ (p : ℕ). every (clear_in m d) p n) (add-zero (i * 8))
+
+-- a map byte with fewer than eight, zeros behind them
+pub rest_clear : (m d rest eight : List ℕ) (i : ℕ) → length rest ≤ 8 → eight ≡ values_from (byte_at rest) 0 8
+    → ((k : ℕ) → k < length rest → byte_at eight k ≡ byte_at d (i * 8 + k))
+    → every (clear_at (byte_at m i) eight) 0 8 ≡ every (clear_in m d) (i * 8) (length rest)
+rest_clear m d rest eight i few from same =
+    let t = clear_at (byte_at m i) eight in
+    let n = length rest in
+    let size : n + (8 - n) ≡ 8 = omega arith in
+    let behind : every t (0 + n) (8 - n) ≡ true =
+    all_if t (0 + n) (8 - n)
+    (λ q l g.
+    let zeros : byte_at eight q ≡ 0 =
+    ap (λ (s : List ℕ). byte_at s q) from ∙ value_at (byte_at rest) 0 8 q (omega arith) ∙ get_or-eq_default rest 0 (omega arith) in
+    ap (λ (x : ℕ). is_set (byte_at m i) q || eqb x 0) zeros ∙ or-true (is_set (byte_at m i) q)) in
+    ap (every t 0) (sym size)
+    ∙ every_join t 0 n (8 - n)
+    ∙ ap₂ ◌&&◌ (eight_clear m d eight i n few same) behind
+    ∙ and-true (every (clear_in m d) (i * 8) n)
+
+-- map bytes, each with its eight bytes
+pub eights_clear : (l : ℕ) (m b : List ℕ) (eights : List (List ℕ)) (k : ℕ) → eights ≡ first_chunks 8 k (take l b) → k * 8 ≤ l → (i n : ℕ) → i + n ≤ k
+    → list_all (λ j. every (clear_at (byte_at m j) (get_or eights j [])) 0 8) (range_with_len i n) ≡ every (λ p. held m p || eqb (byte_at b p) 0) (i * 8) (n * 8)
+eights_clear l m b eights k is room i zero h = sym (every_none (clear_in m b) (i * 8))
+eights_clear l m b eights k is room i (suc n) h =
+    let t = clear_in m b in
+    let next : (i + 1) * 8 ≡ i * 8 + 8 = omega arith in
+    let size : 8 + n * 8 ≡ suc n * 8 = omega arith in
+    ap₂ ◌&&◌
+    (eight_clear m b (get_or eights i []) i 8 (omega arith)
+    (chunk_byte b l k i (get_or eights i []) (omega arith) (omega arith) (ap (λ (s : List (List ℕ)). get_or s i []) is)))
+    (eights_clear l m b eights k is room (i + 1) n (omega arith) ∙ ap (λ (p : ℕ). every t p (n * 8)) next)
+    ∙ sym (every_join t (i * 8) 8 (n * 8))
+    ∙ ap (every t (i * 8)) size
+
+-- all of them, by those of whole map bytes and by what is left
+pub clear_parts : (l : ℕ) (m b : List ℕ) (first last : Bool) → first ≡ every (clear_in m b) 0 (l / 8 * 8) → last ≡ every (clear_in m b) (l / 8 * 8) (l % 8)
+    → (first && last) ≡ unheld_clear l m b
+clear_parts l m b first last e f =
+    let t = clear_in m b in
+    let size : l / 8 * 8 + l % 8 ≡ l = omega arith in
+    ap₂ ◌&&◌ e (f ∙ ap (λ (p : ℕ). every t p (l % 8)) (sym (zero-add (l / 8 * 8))))
+    ∙ sym (every_join t 0 (l / 8 * 8) (l % 8))
+    ∙ ap (every t 0) size

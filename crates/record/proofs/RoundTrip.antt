@@ -21,7 +21,7 @@ use Rattle.reception.specs.Held.{held_of}
 use Rattle.reception.specs.Contents.{HoldsOf, itself, beyond}
 use Rattle.reception.proofs.OfferLaws.{enough_space, right_length}
 use Rattle.reception.proofs.Holding.{same_reception, space_enough}
-use Rattle.record.specs.declared.Recorded.{Recorded}
+use Rattle.reception.specs.declared.File.{File}
 use Rattle.record.specs.Record.{saved_map, saved_buffer, record_of, record_length}
 use Rattle.record.specs.Reading.{number_in, length_in, map_in, buffer_in, is_record, recorded_in, read_record}
 use Rattle.record.specs.Saving.{saving_checks, saving}
@@ -37,7 +37,7 @@ module _ (s : Reception) (right : wrong_length s.length ≡ false) (four : s.num
   -- what a saved record says
   says_of : recorded_in (record_of s) ≡ record { number = s.number; length = s.length }
   says_of =
-      ap₂ (λ (n l : ℕ). let x : Recorded = record { number = n; length = l } in x) (saved_number s right four) (saved_length s right)
+      ap₂ (λ (n l : ℕ). let x : File = record { number = n; length = l } in x) (saved_number s right four) (saved_length s right)
 
   -- What `save` writes for a file of a right length is a record. It says the file's number and length, its map is the
   -- positions that the reception holds, and its bytes are the reception's where they are held and else zero.
@@ -182,7 +182,7 @@ module _ (number l : ℕ) (file : List ℕ) (set : ℕ → Bool) (s : Reception)
   pub holding_is_loaded : loading (record_of s) map buffer ≡ accepted (record { number = number; length = l })
   holding_is_loaded =
       loads_it s right_s four_s map buffer room_s
-      ∙ ap₂ (λ (n k : ℕ). let x : Recorded = record { number = n; length = k } in accepted x) h.numbered h.sized
+      ∙ ap₂ (λ (n k : ℕ). let x : File = record { number = n; length = k } in accepted x) h.numbered h.sized
 
   -- A reception that holds a set of a file's positions is given back as one that holds the same set of the same file.
   pub holding_is_given_back : HoldsOf number l file set (loaded (record_of s) map buffer)
@@ -241,7 +241,7 @@ one_record r q a b d e n l m y =
     same n n' l l' m m' b b' e0 e1 e2 e3 = rw (e0, e1, e2, e3)
 
 -- ---- loaded, and saved again
-module _ (r map buffer : List ℕ) (all : AllBytes r) (x : Recorded) (e : loading r map buffer ≡ accepted x) where
+module _ (r map buffer : List ℕ) (all : AllBytes r) (x : File) (e : loading r map buffer ≡ accepted x) where
   loading_says : (is_record r ≡ true) × (short_space (length_in r) map buffer ≡ false)
   unfolding loading
   loading_says = let w = (accepted_only_if (loading_checks r map buffer) (recorded_in r) x e).0 in (not-false (is_record r) w.0, w.1.0)

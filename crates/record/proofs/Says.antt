@@ -12,7 +12,7 @@ use Rattle.reason.proofs.Bools.{and_left, and_right}
 use Rattle.octets.specs.Numbers.{byte_at, number_at}
 use Rattle.positions.specs.Map.{held, map_size}
 use Rattle.positions.proofs.SpanLaws.{all_at}
-use Rattle.record.specs.declared.Recorded.{Recorded}
+use Rattle.reception.specs.declared.File.{File}
 use Rattle.record.specs.Reading.{length_in, map_in, buffer_in, field_at, read_record, recorded_in}
 use Rattle.record.specs.Says.{RecordSays}
 use Rattle.record.proofs.GivenAnswers.{is_formed, read_says}
@@ -50,5 +50,5 @@ its s e =
           (all_at (λ p. held (map_in s) p || eqb (byte_at (buffer_in s) p) 0) 0 l f.unheld p (omega arith) (omega (arith, low))) no;
     }
 
-pub record_says : (saved : List ℕ) (x : Recorded) → read_record saved ≡ accepted x → RecordSays saved x
+pub record_says : (saved : List ℕ) (x : File) → read_record saved ≡ accepted x → RecordSays saved x
 record_says saved x e = let is = (read_says saved x e).1 in rw is (its saved (e ∙ ap accepted is))

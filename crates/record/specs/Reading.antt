@@ -7,9 +7,7 @@ use Rattle.octets.specs.Numbers.{byte_at, number_at}
 use Rattle.positions.specs.Spans.{every}
 use Rattle.positions.specs.Map.{held, map_size}
 use Rattle.reception.specs.Reception.{wrong_length}
-use Rattle.record.specs.declared.Recorded.{Recorded}
-use Rattle.record.specs.declared.RecordRead.{RecordRead}
-use Rattle.record.specs.declared.RecordRead.TheVariants.{Accepted, Refused}
+use Rattle.reception.specs.declared.File.{File}
 use Rattle.record.specs.Record.{map_at, buffer_at, record_length}
 
 -- the number and the length that a record says
@@ -57,20 +55,15 @@ is_record s =
     && unheld_clear l (map_in s) (buffer_in s)
 
 -- what a record says
-abbrev pub recorded_in : List ℕ → Recorded
+abbrev pub recorded_in : List ℕ → File
 recorded_in s = record { number = number_in s; length = length_in s }
 
 -- reading a record: 13
-unfoldable pub read_record : List ℕ → Answer Recorded
+unfoldable pub read_record : List ℕ → Answer File
 read_record s = first_of (check (not (is_record s)) 13 ∷ []) (recorded_in s)
 
 -- the map of a record by the answer of reading it: no bytes if it was refused, or if a map of that answer's length does not fit
 -- (then it is another record's answer)
-abbrev pub map_read : Answer Recorded → List ℕ → List ℕ
+abbrev pub map_read : Answer File → List ℕ → List ℕ
 map_read (accepted r) s = cond (leb (map_at + map_size r.length) (length s)) (part s map_at (map_size r.length)) []
 map_read (refused n) s = []
-
--- the paper's number and values for each case of an answer that tells what a record says
-abbrev pub record_answer : RecordRead → Answer Recorded
-record_answer (Accepted r) = accepted r
-record_answer (Refused n) = refused n

@@ -4,12 +4,12 @@ use Rattle.std.specs.Prelude.{◌≡◌, false, List, ℕ, ◌+◌, ◌*◌, ◌
 use Rattle.octets.specs.Numbers.{byte_at, number_at}
 use Rattle.positions.specs.Map.{held, map_size}
 use Rattle.reception.specs.Reception.{wrong_length}
-use Rattle.record.specs.declared.Recorded.{Recorded}
+use Rattle.reception.specs.declared.File.{File}
 use Rattle.record.specs.Reading.{map_in, buffer_in}
 
 -- Its length is in range and nothing follows; each field has its tag and its length at its place; spare bits and unheld bytes are
 -- zero.
-pub record RecordSays (saved : List ℕ) (x : Recorded) : Type 0 where
+pub record RecordSays (saved : List ℕ) (x : File) : Type 0 where
   pub right : wrong_length x.length ≡ false
   pub size : length saved ≡ 20 + map_size x.length + x.length
   pub number_field : (byte_at saved 0 ≡ 0x01) × (number_at 2 saved 1 ≡ 4) × (x.number ≡ number_at 4 saved 3)

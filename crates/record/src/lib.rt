@@ -10,13 +10,17 @@ mod reading;
 mod writing;
 
 ghost use Rattle.std.specs.Prelude.{◌≡◌};
+ghost use Rattle.reason.specs.Answer.{answer_of};
+ghost use Rattle.reception.specs.Reception.{lent_in};
 ghost use Rattle.record.specs.Saving.{Saves};
-ghost use Rattle.record.specs.Reading.{read_record, record_answer, map_read};
+ghost use Rattle.record.specs.Reading.{read_record, map_read};
 ghost use Rattle.record.specs.Loading.{Loads};
 
-use reception::LONGEST;
+use reason::Reason;
+use reception::{File, LONGEST, Reception};
 
 // The tags of the four fields.
+// Kept: numbers, since a tag is only written and compared as the byte that it is, and an enum would be cast each time.
 const NUMBER_TAG: u8 = 1;
 
 const LENGTH_TAG: u8 = 2;
@@ -50,79 +54,54 @@ const MAP_AT: usize = MAP_FIELD + BEFORE_DATA;
 // than the largest record has.
 pub const LARGEST: usize = MAP_AT + (LONGEST as usize + 7) / 8 + BEFORE_DATA + LONGEST as usize;
 
-// What saving answers: the record's size, or the number of the reason.
-#[derive(Clone, Copy)]
-pub enum Saved {
-    Accepted(usize),
-    Refused(u8),
-}
-
-// What a record says: the number and the length of its file.
-#[derive(Clone, Copy)]
-pub struct Recorded {
-    pub number: u32,
-    pub length: u32,
-}
-
-// What reading or loading a record answers: what it says, or the number of the reason.
-#[derive(Clone, Copy)]
-pub enum RecordRead {
-    Accepted(Recorded),
-    Refused(u8),
-}
-
-// Saves the reception of the file with a number and a length as a record in the first bytes of the target,
-// spare bits and unheld bytes as zero, and answers its size; refuses 7, 12. The map and the buffer are
-// unchanged.
-pub fn save(number: u32, length: u32, map: &[u8], buffer: &[u8], target: &mut [u8]) -> Saved
-    ensures { Saves (record { number = number; length = length; map = map.now; buffer = buffer.now }) target.old result target.new }
+// Saves a reception as a record in the first bytes of the target, spare bits and unheld bytes as zero, and
+// answers its size; refuses 7, 12.
+pub fn save(reception: Reception, target: &mut [u8]) -> Result<usize, Reason>
+    ensures { Saves (lent_in reception.entry) target.old result target.new }
 {
+    let length = reception.file.length;
     if reception::wrong_length(length) {
-        return Saved::Refused(7);
+        return Err(Reason::Size);
     }
     let size = reading::record_length(length);
-    if reception::short(length, map, buffer) | (target.len() < size) {
-        return Saved::Refused(12);
+    if reception::short(length, reception.map, reception.buffer) || target.len() < size {
+        return Err(Reason::Space);
     }
-    writing::write(number, length, map, buffer, target);
-    Saved::Accepted(size)
+    writing::write(reception, target);
+    Ok(size)
 }
 
-// Loads a record into a lent map and buffer, and answers the number and the length of its file; refuses
-// 13, 12. Spare bits are cleared, and what lies beyond in the map and the buffer is unchanged.
-pub fn load(saved: &[u8], map: &mut [u8], buffer: &mut [u8]) -> RecordRead
+// Loads a record into a lent map and buffer, and answers its file; refuses 13, 12. Spare bits are cleared, and
+// what lies beyond in the map and the buffer is unchanged.
+pub fn load(saved: &[u8], map: &mut [u8], buffer: &mut [u8]) -> Result<File, Reason>
     ensures { Loads saved.now map.old buffer.old result map.new buffer.new }
 {
-    let said = reading::says(saved);
-    if !reading::is_record(saved, said.length) {
-        return RecordRead::Refused(13);
+    let file = read_record(saved)?;
+    if reception::short(file.length, map, buffer) {
+        return Err(Reason::Space);
     }
-    if reception::short(said.length, map, buffer) {
-        return RecordRead::Refused(12);
-    }
-    octets::put(map, 0, reading::map_by(saved, said.length));
-    octets::put(buffer, 0, reading::buffer_by(saved, said.length));
-    RecordRead::Accepted(said)
+    octets::put(map, 0, reading::map_by(saved, file.length));
+    octets::put(buffer, 0, reading::buffer_by(saved, file.length));
+    Ok(file)
 }
 
-// What a record says, or reason 13.
-pub fn read_record(saved: &[u8]) -> RecordRead
-    ensures { record_answer result ≡ read_record saved.now }
+// The file of a record, or reason 13.
+pub fn read_record(saved: &[u8]) -> Result<File, Reason>
+    ensures { answer_of result ≡ read_record saved.now }
 {
-    let said = reading::says(saved);
-    if !reading::is_record(saved, said.length) {
-        return RecordRead::Refused(13);
+    if !reading::is_record(saved) {
+        return Err(Reason::Record);
     }
-    RecordRead::Accepted(said)
+    Ok(reading::says(saved))
 }
 
 // The map of a record that `read_record` has read: the record's own bytes. Of a record that is refused it is
 // the empty part; by the answer of another record it is what stands at that place here, if it fits.
-pub fn map_of(saved: &[u8], read: RecordRead) -> &[u8]
-    ensures { result.now ≡ map_read (record_answer read) saved.now }
+pub fn map_of(saved: &[u8], read: Result<File, Reason>) -> &[u8]
+    ensures { result.now ≡ map_read (answer_of read) saved.now }
 {
     match read {
-        RecordRead::Accepted(said) => reading::map_by(saved, said.length),
-        RecordRead::Refused(_) => &saved[0..0],
+        Ok(file) => reading::map_by(saved, file.length),
+        Err(_) => &[],
     }
 }

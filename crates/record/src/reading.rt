@@ -1,16 +1,17 @@
 // A record, read.
-ghost use Rattle.std.specs.Prelude.{◌≡◌, true, ◌+◌, ◌-◌, ◌*◌, ◌/◌, ◌^◌, ◌≤◌, ◌<◌, length};
+ghost use Rattle.std.specs.Prelude.{◌≡◌, ◌+◌, ◌*◌, ◌^◌, ◌≤◌, ◌<◌, length};
 ghost use Rattle.positions.specs.Spans.{every};
 ghost use Rattle.positions.specs.Map.{map_size};
 ghost use Rattle.reception.specs.Reception.{longest};
 ghost use Rattle.record.specs.Record.{map_at, buffer_at, record_length};
-ghost use Rattle.record.specs.Reading.{length_in, field_at, fields_right, spare_clear, unheld_clear, is_record, recorded_in};
-ghost use Rattle.record.specs.Inner.{part_by, clear_at};
+ghost use Rattle.record.specs.Reading.{field_at, fields_right, spare_clear, unheld_clear, is_record, recorded_in};
+ghost use Rattle.record.specs.Inner.{Room, part_by, clear_at};
 
 use super::{
     BEFORE_DATA, BUFFER_TAG, LENGTH_AT, LENGTH_FIELD, LENGTH_TAG, MAP_AT, MAP_FIELD, MAP_TAG,
-    NUMBER_AT, NUMBER_FIELD, NUMBER_SIZE, NUMBER_TAG, Recorded,
+    NUMBER_AT, NUMBER_FIELD, NUMBER_SIZE, NUMBER_TAG,
 };
+use reception::File;
 
 // Where the buffer of a file of a length stands in a record.
 pub(crate) fn buffer_at(l: u32) -> usize
@@ -26,13 +27,13 @@ pub(crate) fn record_length(l: u32) -> usize
     buffer_at(l) + (l as usize)
 }
 
-// The number and the length that a record says.
-pub(crate) fn says(saved: &[u8]) -> Recorded
+// The file that a record says.
+pub(crate) fn says(saved: &[u8]) -> File
     ensures { result ≡ recorded_in saved.now }
 {
-    Recorded {
-        number: octets::number4(saved, NUMBER_AT),
-        length: octets::number4(saved, LENGTH_AT),
+    File {
+        number: octets::number::<4>(saved, NUMBER_AT) as u32,
+        length: octets::number::<4>(saved, LENGTH_AT) as u32,
     }
 }
 
@@ -64,10 +65,10 @@ pub(crate) fn buffer_by(saved: &[u8], l: u32) -> &[u8]
 
 // Whether a record is one, by the length that it says: in range, nothing behind it, the fields in their order,
 // spare bits and unheld bytes zero.
-pub(crate) fn is_record(saved: &[u8], l: u32) -> bool
-    requires { l ≡ length_in saved.now }
+pub(crate) fn is_record(saved: &[u8]) -> bool
     ensures { result ≡ is_record saved.now }
 {
+    let l = says(saved).length;
     if reception::wrong_length(l) {
         return false;
     }
@@ -89,7 +90,7 @@ fn field_at(saved: &[u8], at: usize, tag: u8, size: usize) -> bool
     requires { at < length saved.now }
     ensures { result ≡ field_at saved.now at tag size }
 {
-    (saved[at] == tag) & ((octets::number2(saved, at + 1) as usize) == size)
+    saved[at] == tag && octets::number::<2>(saved, at + 1) as usize == size
 }
 
 // Whether the tags and the lengths of all four fields stand where they should.
@@ -116,63 +117,29 @@ fn spare_clear(map: &[u8], l: usize) -> bool
     map[l / 8] >> (l % 8) == 0
 }
 
-// Whether position p is held, by its bit in the byte of the eight positions from `from` on, or its byte is
-// zero. The byte is read in any case, so that no branch is needed.
-fn clear_at(b: u8, buffer: &[u8], from: usize, p: usize) -> bool
-    requires { (from ≤ p) × (p < from + 8) × (p < length buffer.now) }
-    ensures { result ≡ clear_at b buffer.now from p }
-{
-    let byte = buffer[p];
-    positions::is_set(b, p - from) | (byte == 0)
-}
-
-// The same of the eight positions from `from` on. A full byte is passed over; of another, eight turns,
-// whatever is found, are unrolled by the compiler.
-fn clear_eight(b: u8, buffer: &[u8], from: usize) -> bool
-    requires { from + 8 ≤ length buffer.now }
-    ensures { result ≡ every (clear_at b buffer.now from) from 8 }
+// Whether each of eight bytes is held, by its bit in a byte of the map, or zero. A full byte is passed over.
+// Kept: of another a loop without a test in it, since the compiler takes its eight turns at once.
+fn clear(b: u8, eight: &[u8; 8]) -> bool
+    ensures { result ≡ every (clear_at b eight.now) 0 8 }
 {
     if b == 255 {
         return true;
     }
     let mut clear = true;
-    let mut k = 0;
-    while k < 8 {
-        clear = clear & clear_at(b, buffer, from, from + k);
-        k += 1;
-    }
-    clear
-}
-
-// The same of the n positions from `from` on.
-fn clear_few(b: u8, buffer: &[u8], from: usize, n: usize) -> bool
-    requires { (n ≤ 8) × (from + n ≤ length buffer.now) }
-    ensures { result ≡ every (clear_at b buffer.now from) from n }
-{
-    let mut clear = true;
-    let mut k = 0;
-    while k < n {
-        clear = clear & clear_at(b, buffer, from, from + k);
-        k += 1;
+    for k in 0..8 {
+        clear &= positions::is_set(b, k) | (eight[k] == 0);
     }
     clear
 }
 
 // Whether the bytes of the positions below l that are not held are zero. A map byte is looked at once, the
-// last one for itself where it has fewer than eight positions.
+// last one, where it has fewer than eight positions, with zeros behind them.
+// Kept: places that are counted, since of two lists side by side the compiler asks at each turn whether either ends.
 fn unheld_clear(map: &[u8], buffer: &[u8], l: usize) -> bool
-    requires { (l ≤ longest) × (l ≤ length map.now * 8) × (l ≤ length buffer.now) }
+    requires { Room l map.now buffer.now }
     ensures { result ≡ unheld_clear l map.now buffer.now }
 {
-    let mut p = 0;
-    while p + 8 <= l {
-        if !clear_eight(map[p / 8], buffer, p) {
-            return false;
-        }
-        p += 8;
-    }
-    if p == l {
-        return true;
-    }
-    clear_few(map[p / 8], buffer, p, l - p)
+    let (eights, rest) = buffer[..l].as_chunks::<8>();
+    (0..l / 8).all(|i| clear(map[i], &eights[i]))
+        && (l % 8 == 0 || clear(map[l / 8], &octets::array(rest, 0)))
 }

@@ -1,14 +1,15 @@
 -- The bytes of a message read as numbers, the first the most significant: their bits are those of the number.
 -- Assumes nothing.
-use mathlib.Core.Path.{◌≡◌, sym, ap, ap₂, ◌∙◌}
+use mathlib.Core.Path.{◌≡◌, refl, sym, ap, ap₂, ◌∙◌}
 use mathlib.Core.List.{List}
 use Prim.Native.Nat.{ℕ, zero, suc, ◌+◌, ◌*◌, ◌-◌, ◌^◌, ◌≤◌, ◌<◌}
 use native.Mathlib.Nat.{add-zero, zero-add, add-suc, zero-mul}
 use native.Mathlib.Numerals.{add-one}
 use native.Mathlib.Omega.{arith}
-use lib.ListN.{length, drop, drop_of_length-le}
-use lib.Seq.{drop-cons}
+use lib.ListN.{length, take, drop, drop_of_length-le}
+use lib.Seq.{drop-cons, get_or-take, get_or-drop}
 use lib.Pow.{pow-add}
+use Rattle.std.specs.Int.{w64, from_be_bytes}
 use Rattle.octets.specs.Numbers.{byte_at, AllBytes}
 use Rattle.remainder.specs.Remainder.{with_bits, bits_of, message_bits}
 use Rattle.remainder.specs.Inner.{with_number, high_first}
@@ -65,3 +66,18 @@ first_bytes n s all l h =
     ap (λ (k : ℕ). with_bits (with_number k 0 (high_first n s 0)) (message_bits (drop n s))) (sym size)
     ∙ ap₂ (λ (c k : ℕ). with_bits c (message_bits (drop k s))) (zeros_before (8 * n) (64 - 8 * n) (high_first n s 0) (high_below n s 0 all)) (sym (zero-add n))
     ∙ read_number n 0 s 0 all (omega arith)
+
+-- the number of the first bytes, read from them alone
+pub front_number : (k n : ℕ) (s : List ℕ) → k ≤ n → high_first k (take n s) 0 ≡ high_first k s 0
+unfolding high_first
+front_number zero n s h = refl
+front_number (suc k) n s h =
+    ap₂ (λ (x y : ℕ). x * 256 + y) (front_number k n s (omega arith)) (get_or-take n s (0 + k) 0 (omega arith))
+
+-- the number of eight bytes, read from an array of them
+pub eight_number : (s : List ℕ) (at : ℕ) → from_be_bytes w64 (take 8 (drop at s)) ≡ high_first 8 s at
+unfolding high_first
+eight_number s at =
+    let byte : (j : ℕ) → j < 8 → byte_at (take 8 (drop at s)) j ≡ byte_at s (at + j) =
+    λ j h. get_or-take 8 (drop at s) j 0 h ∙ get_or-drop at s j 0 in
+    omega (arith, byte 0 (omega arith), byte 1 (omega arith), byte 2 (omega arith), byte 3 (omega arith), byte 4 (omega arith), byte 5 (omega arith), byte 6 (omega arith), byte 7 (omega arith))

@@ -28,25 +28,18 @@ pub fn remainder(s: &[u8]) -> u16
 pub fn check_right(information: &[u8]) -> bool
     ensures { result ≡ check_right information.now }
 {
-    if information.len() < 2 {
+    let Some((message, check)) = information.split_last_chunk::<2>() else {
         return false;
-    }
-    let n = information.len() - 2;
-    let given = high_first(information[n], information[n + 1]);
-    remainder(&information[..n]) == given
+    };
+    let given = u16::from_be_bytes(*check);
+    remainder(message) == given
 }
 
 // The remainder of all bytes of s, byte by byte.
 fn by_bytes(s: &[u8]) -> u16
     ensures { result ≡ remainder_of s.now }
 {
-    let mut c: u16 = 0;
-    let mut i = 0;
-    while i < s.len() {
-        c = next_byte(c, s[i]);
-        i += 1;
-    }
-    c
+    s.iter().fold(0, |c, b| next_byte(c, *b))
 }
 
 // The remainder after one byte more. Eight bits leave at the top, the high byte exclusive-or the new
@@ -54,36 +47,33 @@ fn by_bytes(s: &[u8]) -> u16
 fn next_byte(c: u16, b: u8) -> u16
     ensures { result ≡ with_bits c (bits_of b) }
 {
-    let top = (c >> 8) ^ (b as u16);
+    let top = (c >> 8) ^ u16::from(b);
     let q = top ^ (top >> 4);
     (c << 8) ^ (q << 12) ^ (q << 5) ^ q
 }
 
 // The remainder of all bytes of s, eight at a step. `wide` is a number of 64 bits with the remainder of
 // the bytes so far. The start is 0, so zero bits in front of a message change nothing, and what is
-// beyond whole eights can come first, as a number.
+// beyond whole eights comes first, as a number.
 fn by_eights(s: &[u8]) -> u16
     ensures { result ≡ remainder_of s.now }
 {
-    let mut i = s.len() % 8;
-    let mut wide = number_at(s, 0, i);
-    while i < s.len() {
-        wide = next_eight(wide, number_at(s, i, 8));
-        i += 8;
+    let (front, eights) = s.as_rchunks::<8>();
+    let mut wide = number_of(front);
+    for eight in eights {
+        wide = next_eight(wide, u64::from_be_bytes(*eight));
     }
     narrow(wide)
 }
 
-// The number of n bytes of s from a place on, the first the most significant.
-fn number_at(s: &[u8], at: usize, n: usize) -> u64
-    requires { (n ≤ 8) × (at + n ≤ length s.now) }
-    ensures { result ≡ high_first n s.now at }
+// The number of fewer than eight bytes, the first the most significant.
+fn number_of(s: &[u8]) -> u64
+    requires { length s.now < 8 }
+    ensures { result ≡ high_first (length s.now) s.now 0 }
 {
-    let mut number: u64 = 0;
-    let mut k = 0;
-    while k < n {
-        number = byte_behind(number, s[at + k]);
-        k += 1;
+    let mut number = 0;
+    for b in s {
+        number = byte_behind(number, *b);
     }
     number
 }
@@ -93,7 +83,7 @@ fn byte_behind(number: u64, b: u8) -> u64
     requires { number < 2 ^ 56 }
     ensures { result ≡ number * 256 + b }
 {
-    (number << 8) | (b as u64)
+    (number << 8) | u64::from(b)
 }
 
 // A number of 64 bits with the remainder of `wide` and the eight bytes behind it: what these 128 bits
@@ -125,11 +115,4 @@ fn by_fourth(x: u64) -> u64
 {
     let y = x ^ (x >> 32);
     y ^ (y >> 16) ^ (y >> 44)
-}
-
-// The number of two bytes, the high one first.
-fn high_first(high: u8, low: u8) -> u16
-    ensures { result ≡ high * 256 + low }
-{
-    (high as u16) * 256 + (low as u16)
 }

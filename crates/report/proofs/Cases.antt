@@ -4,16 +4,17 @@ use mathlib.Core.Path.{◌≡◌, refl}
 use mathlib.Core.List.{List, [], ◌∷◌, ◌++◌}
 use Prim.Native.Nat.{ℕ}
 use lib.ListN.{take, set, replicate}
-use Rattle.reason.specs.Answer.{accepted, refused}
+use Rattle.std.specs.Prelude.{Ok, Err}
+use Rattle.reason.specs.declared.Reason.TheVariants.{Space}
+use Rattle.reason.specs.Answer.{accepted, refused, answer_of}
 use Rattle.reason.specs.Order.{first_of}
 use Rattle.positions.specs.Spans.{every, count, first}
 use Rattle.positions.specs.Map.{bit, held}
 use Rattle.holes.specs.Listing.{listing}
 use Rattle.record.specs.Reading.{is_record, read_record}
-use Rattle.report.specs.declared.Reported.TheVariants.{Accepted, Refused}
 use Rattle.report.specs.Decimal.{digit_count, decimal}
 use Rattle.report.specs.Text.{file_line, hole_line, hole_lines, refused_line, file_lines, longest_text}
-use Rattle.report.specs.Reporting.{lines_of, text_of, reporting, reported_answer}
+use Rattle.report.specs.Reporting.{lines_of, text_of, reporting}
 
 -- the input of the hole program in 01: number 7, length 20, held 0 to 3 and 8 to 9
 abbrev sample : List ℕ
@@ -65,8 +66,8 @@ pub record Cases : Type 0 where
   pub refused_by_answer : lines_of (refused 7) sample ≡ 0x72 ∷ 0x65 ∷ 0x66 ∷ 0x75 ∷ 0x73 ∷ 0x65 ∷ 0x64 ∷ 0x20 ∷ 0x37 ∷ 0x0A ∷ []
   pub longest : longest_text ≡ 196654
   -- what an answer of each case means
-  pub reported_accepted : reported_answer (Accepted 34) ≡ accepted 34
-  pub reported_refused : reported_answer (Refused 12) ≡ refused 12
+  pub reported_accepted : answer_of {A = ℕ} (Ok 34) ≡ accepted 34
+  pub reported_refused : answer_of {A = ℕ} (Err Space) ≡ refused 12
   pub no_room : reporting sample [] ≡ refused 12
   pub little_room : reporting sample (replicate 100 0) ≡ refused 12
 

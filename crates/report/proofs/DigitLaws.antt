@@ -5,10 +5,10 @@ use mathlib.Core.Bool.{true≢false}
 use mathlib.Core.Logic.{⊎_elim}
 use mathlib.Core.List.{List, [], ◌∷◌, ◌++◌}
 use Prim.Native.Nat.{ℕ, zero, suc, ◌+◌, ◌*◌, ◌/◌, ◌%◌, ◌^◌, ◌≤◌, ◌<◌}
-use native.Mathlib.Nat.{pow-suc, pow-succ', pow-le-pow_right, one-le-pow, div-one, div-eq_of_lt, div-div-eq-div-mul, le-div_iff_mul-le}
+use native.Mathlib.Nat.{pow-suc, pow-succ', pow-le-pow_right, one-le-pow, div-one, div-div-eq-div-mul, le-div_iff_mul-le}
 use native.Mathlib.Numerals.{add-one}
 use native.Mathlib.Omega.{arith}
-use lib.Dec.{ltb}
+use lib.Dec.{ltb, lit≤}
 use lib.ListN.{length, length-append}
 use borrow.Author.Tests.{lt-ltb, le-ltb, ltb-true, ltb-false}
 use Rattle.reason.proofs.Bools.{le_or_lt}
@@ -20,6 +20,10 @@ use Rattle.report.specs.Decimal.{digit_count, digits, decimal}
 pub power_pos : (k : ℕ) → 1 ≤ 10 ^ k
 power_pos k = one-le-pow k 10 (omega arith)
 
+-- what is left behind one digit more
+pub rest_more : (n k : ℕ) → n / 10 ^ k / 10 ≡ n / 10 ^ suc k
+rest_more n k = div-div-eq-div-mul n (10 ^ k) 10 ∙ ap (λ (m : ℕ). n / m) (sym (pow-suc 10 k))
+
 -- where nothing is left behind k digits, the number is below the power
 pub rest_none : (n k : ℕ) → n / 10 ^ k ≡ 0 → n < 10 ^ k
 rest_none n k e = ⊎_elim (λ h. absurd (some ((le-div_iff_mul-le (power_pos k)).1 (one h)))) (λ h. h) (le_or_lt (10 ^ k) n)
@@ -29,17 +33,6 @@ rest_none n k e = ⊎_elim (λ h. absurd (some ((le-div_iff_mul-le (power_pos k)
 
     some : 1 ≤ n / 10 ^ k → ⊥
     some h = omega arith
-
--- where something is left, the number reaches the power
-pub rest_some : (n k : ℕ) → 0 < n / 10 ^ k → 10 ^ k ≤ n
-rest_some n k h = ⊎_elim (λ g. g) (λ g. absurd (none (div-eq_of_lt g))) (le_or_lt (10 ^ k) n)
-  where
-    none : n / 10 ^ k ≡ 0 → ⊥
-    none e = omega arith
-
--- what is left behind one digit more
-pub rest_more : (n k : ℕ) → n / 10 ^ k / 10 ≡ n / 10 ^ suc k
-rest_more n k = div-div-eq-div-mul n (10 ^ k) 10 ∙ ap (λ (m : ℕ). n / m) (sym (pow-suc 10 k))
 
 -- a number of 32 bits reaches no power from 10 ^ 10 on
 pub few : (n k : ℕ) → n < 2 ^ 32 → 10 ^ k ≤ n → k < 10
@@ -62,6 +55,20 @@ digit_count_is n k h low reached none =
     most zero r = omega arith
     most (suc zero) r = omega arith
     most (suc (suc j)) r = let w = few n (suc j) h (r (suc j) (omega arith) (omega arith)) in omega arith
+
+-- .. and by the one power between it and a tenth of it
+pub digit_count_between : (n k : ℕ) → 10 ^ k ≤ n → n < 10 * 10 ^ k → k < 10 → k + 1 ≡ digit_count n
+unfolding digit_count
+digit_count_between n k reached below few =
+    sym
+    (first_is (λ j. ltb n (10 ^ j)) 1 9 (k + 1) (omega arith) (omega arith)
+    (λ j l g. le-ltb n (10 ^ j) (omega (arith, reached, pow-le-pow_right {n = 10} (omega arith) {i = j} {j = k} (omega arith))))
+    (λ g. lt-ltb n (10 ^ (k + 1)) (rw (add-one k, pow-suc 10 k) (omega (arith, below)))))
+
+-- 0 has one
+pub one_digit : (n : ℕ) → n ≡ 0 → 1 ≡ digit_count n
+unfolding digit_count
+one_digit n e = rw e (sym (first_is (λ j. ltb 0 (10 ^ j)) 1 9 1 (omega arith) (omega arith) (λ j l g. absurd (omega arith)) (λ g. lt-ltb 0 (10 ^ 1) (lit≤ tt))))
 
 module _ (n : ℕ) where
   -- at least one

@@ -10,7 +10,9 @@ use native.Mathlib.Omega.{arith}
 use lib.ListN.{length, take}
 use lib.Seq.{take_all, length-take-le}
 use borrow.Author.Tests.{ltb-false}
-use Rattle.reason.specs.Answer.{Answer, accepted, refused, leaving}
+use Rattle.std.specs.Prelude.{Result, Ok}
+use Rattle.reason.specs.declared.Reason.{Reason}
+use Rattle.reason.specs.Answer.{Answer, accepted, refused, leaving, answer_of}
 use Rattle.reason.specs.Order.{first_of}
 use Rattle.reason.proofs.Bools.{le_or_lt}
 use Rattle.reason.proofs.OrderLaws.{accepted_only_if}
@@ -21,15 +23,13 @@ use Rattle.reception.specs.Reception.{longest, wrong_length}
 use Rattle.reception.specs.Held.{held_count}
 use Rattle.holes.specs.EveryHole.{listed_from, AllHoles}
 use Rattle.holes.proofs.HoleLaws.{all_holes}
-use Rattle.record.specs.declared.Recorded.{Recorded}
+use Rattle.reception.specs.declared.File.{File}
 use Rattle.record.specs.Record.{record_length}
 use Rattle.record.specs.Reading.{map_in, is_record, read_record}
 use Rattle.record.proofs.GivenAnswers.{is_formed, reads_13, read_says, map_handed_out}
 use Rattle.record.proofs.RoundTrip.{never_larger}
-use Rattle.report.specs.declared.Reported.{Reported}
-use Rattle.report.specs.declared.Reported.TheVariants.{Accepted}
 use Rattle.report.specs.Text.{file_line, hole_lines, refused_line, longest_text}
-use Rattle.report.specs.Reporting.{lines_of, text_of, reporting_checks, reporting, reported_answer, Reports}
+use Rattle.report.specs.Reporting.{lines_of, text_of, reporting_checks, reporting, Reports}
 use Rattle.report.proofs.TextLaws.{fits, refusal_fits}
 use Rattle.report.proofs.ReportLaws.{file_needs}
 
@@ -37,15 +37,15 @@ use Rattle.report.proofs.ReportLaws.{file_needs}
 pub text_fits : (s : List ℕ) → length (text_of s) ≤ longest_text
 text_fits s = by (read_record s) refl
   where
-    by : (x : Answer Recorded) → read_record s ≡ x → length (lines_of x s) ≤ longest_text
-    by (accepted r) e = let says = read_says s r e in fits r.number r.length (map_in s) (ap (λ (x : Recorded). wrong_length x.length) says.1 ∙ (is_formed s says.0).right)
+    by : (x : Answer File) → read_record s ≡ x → length (lines_of x s) ≤ longest_text
+    by (accepted r) e = let says = read_says s r e in fits r.number r.length (map_in s) (ap (λ (x : File). wrong_length x.length) says.1 ∙ (is_formed s says.0).right)
     by (refused n) e = refusal_fits n
 
 -- The size that is told is within the lent slice.
-pub told_within : (s out : List ℕ) (r : Reported) (left : List ℕ) (n : ℕ) → Reports s out r left → r ≡ Accepted n → n ≤ length left
+pub told_within : (s out : List ℕ) (r : Result ℕ Reason) (left : List ℕ) (n : ℕ) → Reports s out r left → r ≡ Ok n → n ≤ length left
 unfolding reporting
 told_within s out r left n w e =
-    let accepts : reporting s out ≡ accepted n = sym w.answers ∙ ap reported_answer e in
+    let accepts : reporting s out ≡ accepted n = sym w.answers ∙ ap answer_of e in
     let is = accepted_only_if (reporting_checks out) (length (text_of s)) n accepts in
     let room : longest_text ≤ length out = ltb-false (length out) longest_text is.0.0 in
     let fit = text_fits s in
@@ -59,7 +59,7 @@ too_long_is_refused s h = by (is_record s) refl
   where
     by : (b : Bool) → is_record s ≡ b → text_of s ≡ refused_line 13
     by true e = absurd (let k = never_larger s e in omega arith)
-    by false e = ap (λ (x : Answer Recorded). lines_of x s) (reads_13 s e)
+    by false e = ap (λ (x : Answer File). lines_of x s) (reads_13 s e)
 
 -- So it is enough to read that many bytes and one more.
 pub cut_says_the_same : (s : List ℕ) (n : ℕ) → record_length longest < n → text_of (take n s) ≡ text_of s
@@ -72,7 +72,7 @@ cut_says_the_same s n h =
     (le_or_lt (length s) n)
 
 -- What is promised of the text of what was read is promised of the whole input: all of it was read, or that many bytes.
-pub cut_reports_the_same : (s read out : List ℕ) (n : ℕ) (r : Reported) (left : List ℕ) → record_length longest < n → take n s ≡ read
+pub cut_reports_the_same : (s read out : List ℕ) (n : ℕ) (r : Result ℕ Reason) (left : List ℕ) → record_length longest < n → take n s ≡ read
     → Reports read out r left → Reports s out r left
 unfolding reporting
 cut_reports_the_same s read out n r left h e w =
@@ -83,11 +83,11 @@ cut_reports_the_same s read out n r left h e w =
     }
 
 -- The text of a record lists every hole of its map, once, ascending.
-pub text_lists_every_hole : (s : List ℕ) (r : Recorded) → read_record s ≡ accepted r
+pub text_lists_every_hole : (s : List ℕ) (r : File) → read_record s ≡ accepted r
     → (holes : List Hole) × (AllHoles r.length (map_in s) holes
     × (text_of s ≡ file_line r.number r.length (held_count r.length (map_in s)) ++ hole_lines holes))
 text_lists_every_hole s r e =
     let needs = file_needs s r e (map_in s) (sym (map_handed_out s r e)) in (
       listed_from r.length r.length (map_in s) 0,
-      (all_holes r.length (map_in s) needs.0 needs.1, ap (λ (x : Answer Recorded). lines_of x s) e),
+      (all_holes r.length (map_in s) needs.0 needs.1, ap (λ (x : Answer File). lines_of x s) e),
     )

@@ -1,17 +1,16 @@
 -- What the hole program prints for an input (01, "Both sides of the line"), and how it is written into a lent slice.
 -- Assumes nothing.
-use Rattle.std.specs.Prelude.{List, [], ◌∷◌, ℕ, ltb, length}
-use Rattle.reason.specs.Answer.{Answer, accepted, refused, WritesAndTells}
+use Rattle.std.specs.Prelude.{List, [], ◌∷◌, ℕ, ltb, length, Result}
+use Rattle.reason.specs.declared.Reason.{Reason}
+use Rattle.reason.specs.Answer.{Answer, accepted, refused, answer_of, WritesAndTells}
 use Rattle.reason.specs.Order.{Check, check, first_of}
 use Rattle.octets.specs.Runs.{put_in}
-use Rattle.record.specs.declared.Recorded.{Recorded}
+use Rattle.reception.specs.declared.File.{File}
 use Rattle.record.specs.Reading.{map_in, read_record}
-use Rattle.report.specs.declared.Reported.{Reported}
-use Rattle.report.specs.declared.Reported.TheVariants.{Accepted, Refused}
 use Rattle.report.specs.Text.{refused_line, file_lines, longest_text}
 
 -- the lines of a record, by what reading it answers
-abbrev pub lines_of : Answer Recorded → List ℕ → List ℕ
+abbrev pub lines_of : Answer File → List ℕ → List ℕ
 lines_of (accepted r) s = file_lines r.number r.length (map_in s)
 lines_of (refused n) s = refused_line n
 
@@ -27,11 +26,6 @@ reporting_checks out = check (ltb (length out) longest_text) 12 ∷ []
 unfoldable pub reporting : List ℕ → List ℕ → Answer ℕ
 reporting s out = first_of (reporting_checks out) (length (text_of s))
 
--- the paper's number and values for each case of `report`'s answer
-abbrev pub reported_answer : Reported → Answer ℕ
-reported_answer (Accepted n) = accepted n
-reported_answer (Refused n) = refused n
-
 -- The promise of `report`: what it answers, and that it leaves the text in the first bytes of the lent slice, or every byte as it was.
-abbrev pub Reports : List ℕ → List ℕ → Reported → List ℕ → Type 0
-Reports s out r left = WritesAndTells out (reporting s out) (λ n. put_in out 0 (text_of s)) (reported_answer r) left
+abbrev pub Reports : List ℕ → List ℕ → Result ℕ Reason → List ℕ → Type 0
+Reports s out r left = WritesAndTells out (reporting s out) (λ n. put_in out 0 (text_of s)) (answer_of r) left

@@ -9,8 +9,8 @@ mod number;
 
 ghost use Rattle.report.specs.Reporting.{Reports};
 
+use reason::Reason;
 use reception::LONGEST;
-use record::RecordRead;
 
 // The longest first line, with numbers of ten, five and five digits, and the longest line of a hole; there is
 // at most one hole to two positions.
@@ -21,28 +21,18 @@ const HOLE_LINE: usize = 12;
 // No text is longer than this (`proofs/WholeInput.antt`, `text_fits`).
 pub const LONGEST_TEXT: usize = FIRST_LINE + HOLE_LINE / 2 * (LONGEST as usize + 1);
 
-// What `report` answers: how many bytes the text has, or the number of the reason.
-#[derive(Clone, Copy)]
-pub enum Reported {
-    Accepted(usize),
-    Refused(u8),
-}
-
 // Writes the text of a record, or that it is refused, into the first bytes of out, and answers how many they
 // are; refuses 12 where out has no room for the longest text. Every input has a text, and bytes behind a
 // record are an input that is refused.
-pub fn report(input: &[u8], out: &mut [u8]) -> Reported
+pub fn report(input: &[u8], out: &mut [u8]) -> Result<usize, Reason>
     ensures { Reports input.now out.old result out.new }
 {
     if out.len() < LONGEST_TEXT {
-        return Reported::Refused(12);
+        return Err(Reason::Space);
     }
     let read = record::read_record(input);
-    match read {
-        RecordRead::Accepted(said) => {
-            let map = record::map_of(input, read);
-            Reported::Accepted(lines::file_lines(said.number, said.length, map, out))
-        }
-        RecordRead::Refused(n) => Reported::Accepted(lines::refused_line(n, out)),
-    }
+    Ok(match read {
+        Ok(file) => lines::file_lines(file, record::map_of(input, read), out),
+        Err(reason) => lines::refused_line(reason, out),
+    })
 }

@@ -7,13 +7,10 @@ ghost use Rattle.report.specs.Decimal.{digit_count, digits, decimal};
 fn places(n: u32) -> usize
     ensures { result ≡ digit_count n }
 {
-    let mut k = 1;
-    let mut rest = n / 10;
-    while rest > 0 {
-        rest /= 10;
-        k += 1;
+    match n.checked_ilog10() {
+        Some(k) => k as usize + 1,
+        None => 1,
     }
-    k
 }
 
 // Writes the last k digits of a number into out from a place on, the last one first.
@@ -21,11 +18,9 @@ fn put_digits(n: u32, k: usize, out: &mut [u8], at: usize)
     requires { at + k ≤ length out.old }
     ensures { out.new ≡ put_in out.old at (digits k n) }
 {
-    let mut i = k;
     let mut rest = n;
-    while i > 0 {
-        i -= 1;
-        out[at + i] = 48 + (rest % 10) as u8;
+    for i in (0..k).rev() {
+        out[at + i] = b'0' + (rest % 10) as u8;
         rest /= 10;
     }
 }

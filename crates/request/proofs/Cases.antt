@@ -5,7 +5,7 @@ use mathlib.Core.Bool.{true, false}
 use mathlib.Core.List.{List, [], ◌∷◌, ◌++◌}
 use Prim.Native.Nat.{ℕ, ◌*◌}
 use lib.ListN.{length, take, set, replicate}
-use Rattle.reason.specs.Answer.{Answer, accepted, refused, leaving}
+use Rattle.reason.specs.Answer.{Answer, accepted, refused, leaving, answer_of}
 use Rattle.reason.specs.Order.{first_of}
 use Rattle.octets.specs.Runs.{put_in}
 use Rattle.octets.specs.Values.{values_from}
@@ -21,12 +21,12 @@ use Rattle.holes.specs.Listing.{listing}
 use Rattle.request.specs.declared.Asks.{Asks}
 use Rattle.request.specs.declared.Asks.TheVariants.{Start, Holes}
 use Rattle.request.specs.declared.Request.{Request}
-use Rattle.request.specs.declared.RequestRead.TheVariants as request
+use Rattle.std.specs.Prelude.{Ok, Err}
 use Rattle.request.specs.declared.Written.{Written}
-use Rattle.request.specs.declared.Filled.TheVariants as filled
+use Rattle.reason.specs.declared.Reason.TheVariants.{NoHole, Beyond, Space}
 use Rattle.request.specs.Request.{holes_of_kind, request_before, hole_bytes, holes_bytes, request_frame, holes_right}
-use Rattle.request.specs.Reading.{count_right, hole_spelled, hole_in, request_checks, request_fields, read_request, request_answer, hole_read, hole_at, holes_read, holes_of}
-use Rattle.request.specs.Writing.{Wanted, holes_from, filling, fill_frame, filled_answer, Fills, starting}
+use Rattle.request.specs.Reading.{count_right, hole_spelled, hole_in, request_checks, request_fields, read_request, hole_read, hole_at, holes_read, holes_of}
+use Rattle.request.specs.Writing.{Wanted, holes_from, filling, fill_frame, Fills, starting}
 use Rattle.request.specs.Run.{sent_from, place_after, together, naming}
 
 -- from VA3SFL-0 to UOSAT5-11
@@ -103,8 +103,8 @@ pub record Cases : Type 0 where
   pub request_holes : holes_from twenty 0 ≡ hole 4 4 ∷ hole 10 10 ∷ []
   pub request_answer_case : filling twenty 0 (rubbish 33) ≡ lists 2 20
   pub request_in_longer_target : leaving (λ x. put_in (rubbish 35) 0 (fill_frame twenty 0)) (rubbish 35) (filling twenty 0 (rubbish 35)) ≡ framed 0xBB example ++ 9 ∷ 9 ∷ []
-  pub promise_from_5 : Fills twenty 5 (rubbish 30) (filled.Accepted (record { count = 1; end = 20 })) (framed 0xBB (0x11 ∷ 0x07 ∷ 0x00 ∷ 0x00 ∷ 0x00 ∷ 0xF4 ∷ 0x00 ∷ 0x0A ∷ 0x00 ∷ 0x00 ∷ 0x0A ∷ 0x00 ∷ 9 ∷ 9 ∷ []))
-  pub promise_refused : Fills twenty 5 (rubbish 27) (filled.Refused 12) (rubbish 27)
+  pub promise_from_5 : Fills twenty 5 (rubbish 30) (Ok (record { count = 1; end = 20 })) (framed 0xBB (0x11 ∷ 0x07 ∷ 0x00 ∷ 0x00 ∷ 0x00 ∷ 0xF4 ∷ 0x00 ∷ 0x0A ∷ 0x00 ∷ 0x00 ∷ 0x0A ∷ 0x00 ∷ 9 ∷ 9 ∷ []))
+  pub promise_refused : Fills twenty 5 (rubbish 27) (Err Space) (rubbish 27)
   pub request_refused_leaves : leaving (λ x. put_in (rubbish 32) 0 (fill_frame twenty 0)) (rubbish 32) (filling twenty 0 (rubbish 32)) ≡ rubbish 32
   -- places: at a hole, inside one, at its end, at the last end and beyond, and none is narrowed
   pub from_4 : filling twenty 4 (rubbish 33) ≡ lists 2 20
@@ -261,10 +261,10 @@ pub record Cases : Type 0 where
   pub list_of_1 : holes_of_kind Holes 1 ≡ true
   pub list_of_49 : holes_of_kind Holes 49 ≡ true
   pub list_of_50 : holes_of_kind Holes 50 ≡ false
-  pub filled_accepted : filled_answer (filled.Accepted (record { count = 2; end = 20 })) ≡ lists 2 20
-  pub filled_refused : filled_answer (filled.Refused 15) ≡ refused 15
-  pub request_accepted : request_answer (request.Accepted (record { head = to_uosat5; asks = Holes; number = 7; count = 2 })) ≡ says Holes 7 2
-  pub request_refused : request_answer (request.Refused 10) ≡ refused 10
+  pub filled_accepted : answer_of (Ok (record { count = 2; end = 20 })) ≡ lists 2 20
+  pub filled_refused : answer_of {A = Written} (Err NoHole) ≡ refused 15
+  pub request_accepted : answer_of (Ok (record { head = to_uosat5; asks = Holes; number = 7; count = 2 })) ≡ says Holes 7 2
+  pub request_refused : answer_of {A = Request} (Err Beyond) ≡ refused 10
 
 pub cases : Cases
 unfolding first_of put_in first bit held is_name is_writable address_at well_formed head_checks head_of head_bytes listing request_frame holes_right hole_spelled request_checks request_fields read_request filling starting

@@ -7,6 +7,10 @@ use Prim.Native.Nat.{ℕ, suc, ◌+◌, ◌-◌, ◌*◌, ◌≤◌, ◌<◌}
 use native.Mathlib.Nat.{zero-add}
 use native.Mathlib.Omega.{arith}
 use lib.ListN.{length, take}
+use Rattle.std.specs.Prelude.{Ok, Err}
+use Rattle.reason.specs.declared.Reason.{Reason}
+use Rattle.reason.specs.declared.Reason.TheVariants.{Space}
+use Rattle.reason.specs.Reasons.{number_of}
 use Rattle.reason.specs.Answer.{accepted, refused}
 use Rattle.octets.specs.Runs.{put_in, Put}
 use Rattle.octets.proofs.RunLaws.{put_fits, put_put, put_length, put_nothing}
@@ -18,10 +22,10 @@ use Rattle.holes.specs.Listing.{listing}
 use Rattle.holes.specs.EveryHole.{end_of, listed_from, last_end}
 use Rattle.holes.proofs.ListedLaws.{listed_none, listed_more, some_listed, listed_most}
 use Rattle.request.specs.declared.Asks.TheVariants.{Holes}
-use Rattle.request.specs.declared.Filled.TheVariants as filled
+use Rattle.request.specs.declared.Written.{Written}
 use Rattle.request.specs.Request.{most_holes, before_holes, bytes_per_hole, request_before, hole_bytes, holes_bytes}
 use Rattle.request.specs.Writing.{Wanted, holes_from, filling, Fills}
-use Rattle.request.specs.Inner.{Gathers}
+use Rattle.request.specs.Inner.{Gathered}
 use Rattle.request.proofs.WritingLaws.{holes_long, and_holes, fills_refused, fills_12, fills, fill_refused, fill_accepted}
 
 -- What is listed and written so far, with what would be listed behind it, is the whole.
@@ -70,31 +74,31 @@ module _ (l : ℕ) (map : List ℕ) (place : ℕ) (entries : List ℕ) (room : m
               ∙ s.bytes;
         }
 
-    -- nothing is left to list
-    finished : (reason : ℕ) → Rest ≡ [] → (count ≡ 0 → listing l map place ≡ refused reason) → Gathers l map place entries count end reason so_far
-    finished reason none why = record {
+    -- nothing is left to list, where something is listed
+    finished : (count ≡ 0 → ⊥) → Rest ≡ [] → Gathered l map place entries (record { count = count; end = end }) so_far
+    finished some none = record {
+      some = omega (arith, some);
       counted = let a = ap length none in omega (arith, a, s.counted);
       ended = sym (ap (last_end end) none) ∙ s.ended;
-      none = why;
       bytes =
           sym (put_nothing so_far (count * bytes_per_hole))
           ∙ sym (ap (λ (holes : List Hole). put_in so_far (count * bytes_per_hole) (holes_bytes holes)) none)
           ∙ s.bytes;
     }
 
-    pub no_more : (reason : ℕ) → listing l map end ≡ refused reason → Gathers l map place entries count end reason so_far
-    no_more reason e =
-        finished reason (listed_none l map end (most_holes - count) reason e) (λ z. sym (ap (listing l map) (s.none_yet z)) ∙ e)
+    pub no_more : (n : ℕ) → listing l map end ≡ refused n → (count ≡ 0 → ⊥) → Gathered l map place entries (record { count = count; end = end }) so_far
+    no_more n e some = finished some (listed_none l map end (most_holes - count) n e)
 
-    pub all_listed : most_holes ≤ count → Gathers l map place entries count end 0 so_far
+    pub all_listed : most_holes ≤ count → Gathered l map place entries (record { count = most_holes; end = end }) so_far
     all_listed h =
         let z : most_holes - count ≡ 0 = omega arith in
-        finished 0 (ap (λ (n : ℕ). listed_from n l map end) z) (λ e. absurd (omega arith))
+        let is : count ≡ most_holes = omega (arith, s.few) in
+        rw (← is) (finished (λ e. omega arith) (ap (λ (n : ℕ). listed_from n l map end) z))
 
 -- the bytes of the holes stand within the entries
-pub gathered_fits : (l : ℕ) (map : List ℕ) (place : ℕ) (entries : List ℕ) (count end reason : ℕ) (entries' : List ℕ)
-    → most_holes * bytes_per_hole ≤ length entries → Gathers l map place entries count end reason entries' → count * bytes_per_hole ≤ length entries'
-gathered_fits l map place entries count end reason entries' room g =
+pub gathered_fits : (l : ℕ) (map : List ℕ) (place : ℕ) (entries : List ℕ) (x : Written) (entries' : List ℕ)
+    → most_holes * bytes_per_hole ≤ length entries → Gathered l map place entries x entries' → x.count * bytes_per_hole ≤ length entries'
+gathered_fits l map place entries x entries' room g =
     let holes = listed_from most_holes l map place in
     let few = listed_most most_holes l map place in
     let size = holes_long holes in
@@ -102,31 +106,29 @@ gathered_fits l map place entries count end reason entries' room g =
     omega (arith, g.counted, same)
 
 -- ---- the answer, by what was gathered
-module _ (w : Wanted) (place : ℕ) (target : List ℕ) (good : (is_writable w.head.destination && is_writable w.head.source) ≡ true)
-    (entries : List ℕ)
-    (count end reason : ℕ) (entries' : List ℕ) (g : Gathers w.length w.map place entries count end reason entries') where
-  pub gathered_none : count ≡ 0 → Fills w place target (filled.Refused reason) target
-  gathered_none z = fill_refused w place target reason (fills_refused w place target good reason (g.none z))
+module _ (w : Wanted) (place : ℕ) (target : List ℕ) (good : (is_writable w.head.destination && is_writable w.head.source) ≡ true) where
+  pub gathered_none : (reason : Reason) → listing w.length w.map place ≡ refused (number_of reason) → Fills w place target (Err reason) target
+  gathered_none reason e = fill_refused w place target reason (fills_refused w place target good (number_of reason) e)
 
-  module _ (some : count ≡ 0 → ⊥) where
+  module _ (entries : List ℕ) (x : Written) (entries' : List ℕ) (g : Gathered w.length w.map place entries x entries') where
     listed : (hole : Hole) × (listing w.length w.map place ≡ accepted hole)
-    listed = some_listed w.length w.map place most_holes (omega (arith, g.counted, some))
+    listed = some_listed w.length w.map place most_holes (omega (arith, g.counted, g.some))
 
-    pub gathered_short : length target < head_length + before_holes + count * bytes_per_hole → Fills w place target (filled.Refused 12) target
-    gathered_short h = fill_refused w place target 12 (fills_12 w place target good listed.0 listed.1 (omega (arith, g.counted)))
+    pub gathered_short : length target < head_length + before_holes + x.count * bytes_per_hole → Fills w place target (Err Space) target
+    gathered_short h = fill_refused w place target Space (fills_12 w place target good listed.0 listed.1 (omega (arith, g.counted)))
 
-    module _ (room : head_length + before_holes + count * bytes_per_hole ≤ length target) where
-      told : filling w place target ≡ accepted (record { count = count; end = end })
+    module _ (room : head_length + before_holes + x.count * bytes_per_hole ≤ length target) where
+      told : filling w place target ≡ accepted x
       told =
           fills w place target good listed.0 listed.1 (omega (arith, g.counted))
-          ∙ sym (ap₂ (λ (x y : ℕ). accepted (record { count = x; end = y })) g.counted g.ended)
+          ∙ sym (ap₂ (λ (m n : ℕ). accepted (record { count = m; end = n })) g.counted g.ended)
 
       pub gathered_written : most_holes * bytes_per_hole ≤ length entries → (part before after : List ℕ) (q : Bool)
-          → part ≡ take (count * bytes_per_hole) entries'
+          → part ≡ take (x.count * bytes_per_hole) entries'
           → before ≡ put_in target 0 (head_bytes w.head.destination w.head.source file_protocol ++ request_before Holes w.number)
-          → Put before (head_length + before_holes) part q after → Fills w place target (filled.Accepted (record { count = count; end = end })) after
+          → Put before (head_length + before_holes) part q after → Fills w place target (Ok x) after
       gathered_written space part before after q is e put =
-          fill_accepted w place target (record { count = count; end = end }) after told
+          fill_accepted w place target x after told
           (and_holes target w.head.destination w.head.source Holes w.number (holes_from w place) entries part before after q
           (omega (arith, g.counted)) (omega (arith, listed_most most_holes w.length w.map place))
-          (is ∙ ap₂ (λ (n : ℕ) (x : List ℕ). take (n * bytes_per_hole) x) g.counted g.bytes) e put)
+          (is ∙ ap₂ (λ (n : ℕ) (y : List ℕ). take (n * bytes_per_hole) y) g.counted g.bytes) e put)

@@ -30,7 +30,7 @@ use Rattle.holes.proofs.ListedLaws.{listed_more, listed_most}
 use Rattle.request.specs.declared.Asks.{Asks}
 use Rattle.request.specs.declared.Asks.TheVariants.{Start, Holes}
 use Rattle.request.specs.declared.Written.{Written}
-use Rattle.request.specs.declared.Filled.TheVariants as filled
+use Rattle.std.specs.Prelude.{Ok}
 use Rattle.request.specs.Request.{most_holes, frame_length, request_before, holes_bytes, information, request_frame, hole_right, holes_right}
 use Rattle.request.specs.Reading.{read_request, holes_of}
 use Rattle.request.specs.Writing.{Wanted, holes_from, fill_checks, filling, fill_frame, Fills, start_checks, starting}
@@ -69,7 +69,7 @@ frame_stands : (target run : List ℕ) (n : ℕ) → length run ≡ n → n ≤ 
 frame_stands target run n e h = ap (λ (k : ℕ). take k (put_in target 0 run)) (sym e) ∙ put_part target 0 run (omega arith)
 
 -- What `write_fill` leaves where it accepts: the frame stands in the first bytes of the target.
-pub left_is_sent : (w : Wanted) (place : ℕ) (target : List ℕ) (x : Written) (left : List ℕ) → Fills w place target (filled.Accepted x) left
+pub left_is_sent : (w : Wanted) (place : ℕ) (target : List ℕ) (x : Written) (left : List ℕ) → Fills w place target (Ok x) left
     → (filling w place target ≡ accepted x) × (take (frame_length x.count) left ≡ sent w place target x)
 left_is_sent w place target x left f =
     let e = sym f.answers in

@@ -7,16 +7,17 @@ use Prim.Native.Nat.{ℕ, ◌+◌, ◌*◌, ◌≤◌, ◌<◌}
 use native.Mathlib.Omega.{arith}
 use lib.ListN.{length, take, length-append}
 use borrow.Author.Tests.{lt-ltb, le-ltb}
+use Rattle.std.specs.Prelude.{Result, Ok, Err}
+use Rattle.reason.specs.declared.Reason.{Reason}
+use Rattle.reason.specs.declared.Reason.TheVariants.{Address, Space}
+use Rattle.reason.specs.Reasons.{number_of}
 use Rattle.reason.specs.Answer.{Writes, accepted, refused}
 use Rattle.reason.specs.Order.{check, first_of}
-use Rattle.reason.specs.declared.Outcome.{Outcome}
-use Rattle.reason.specs.declared.Outcome.TheVariants as outcome
-use Rattle.reason.proofs.Bools.{and_both}
 use Rattle.reason.proofs.OrderLaws.{skip, stop, none_left, refused_then, accepted_then}
 use Rattle.reason.proofs.Writing.{writes_refused, writes_accepted, when_accepted, tells_refused, tells_accepted}
 use Rattle.octets.specs.Runs.{put_in, Put}
 use Rattle.octets.proofs.RunLaws.{put_more, put_part}
-use Rattle.ax25.specs.declared.Address.{Address}
+use Rattle.ax25.specs.declared.Address as ax
 use Rattle.ax25.specs.declared.Head.{Head}
 use Rattle.ax25.specs.Address.{is_writable}
 use Rattle.ax25.specs.Head.{head_length, head_bytes, write_head}
@@ -29,7 +30,6 @@ use Rattle.holes.specs.EveryHole.{last_end}
 use Rattle.request.specs.declared.Asks.{Asks}
 use Rattle.request.specs.declared.Asks.TheVariants.{Start}
 use Rattle.request.specs.declared.Written.{Written}
-use Rattle.request.specs.declared.Filled.TheVariants as filled
 use Rattle.request.specs.Request.{before_holes, bytes_per_hole, frame_length, request_before, hole_bytes, holes_bytes, request_frame}
 use Rattle.request.specs.Writing.{Wanted, short_target, holes_from, filling, fill_frame, Fills, starting}
 
@@ -39,16 +39,16 @@ holes_long [] = refl
 holes_long (hole ∷ holes) = omega (arith, length-append (hole_bytes hole) (holes_bytes holes), holes_long holes)
 
 -- ---- the runs of a frame
-module _ (target : List ℕ) (d s : Address) where
+module _ (target : List ℕ) (d s : ax.Address) where
   -- the head, and the seven bytes behind it
-  pub head_and_seven : (is_writable d ≡ true) → (is_writable s ≡ true) → head_length + before_holes ≤ length target
-      → (seven before after run : List ℕ) (r : Outcome) (q : Bool)
+  pub head_and_seven : (is_writable d && is_writable s) ≡ true → head_length + before_holes ≤ length target
+      → (seven before after run : List ℕ) (r : Result Unit Reason) (q : Bool)
       → length run ≡ before_holes → seven ≡ run → Writes target (write_head target d s file_protocol) r before → Put before head_length seven q after
       → after ≡ put_in target 0 (head_bytes d s file_protocol ++ run)
   unfolding head_bytes
-  head_and_seven gd gs room seven before after run r q size is wrote put =
+  head_and_seven good room seven before after run r q size is wrote put =
       put_more target 0 (head_bytes d s file_protocol) run before q after
-      (when_accepted target (write_head target d s file_protocol) r before _ wrote (head_written target d s file_protocol (and_both (is_writable d) (is_writable s) gd gs) (omega arith))).1
+      (when_accepted target (write_head target d s file_protocol) r before _ wrote (head_written target d s file_protocol good (omega arith))).1
       (rw is at put) (omega arith)
 
   -- .. and the holes behind both
@@ -71,18 +71,18 @@ module _ (target : List ℕ) (d s : Address) where
 -- ---- a request for the start
 module _ (head : Head) (number : ℕ) (target : List ℕ) where
   pub start_2 : (is_writable head.destination && is_writable head.source) ≡ false
-      → Writes target (starting head number target) (outcome.Refused 2) target
+      → Writes target (starting head number target) (Err Address) target
   unfolding starting
-  start_2 g = writes_refused target (starting head number target) target 2 (stop _ _ _ (ap not g)) refl
+  start_2 g = writes_refused target (starting head number target) target Address (stop _ _ _ (ap not g)) refl
 
   module _ (good : (is_writable head.destination && is_writable head.source) ≡ true) where
-    pub start_12 : length target < head_length + before_holes → Writes target (starting head number target) (outcome.Refused 12) target
+    pub start_12 : length target < head_length + before_holes → Writes target (starting head number target) (Err Space) target
     unfolding starting
-    start_12 h = writes_refused target (starting head number target) target 12 (skip _ _ _ (ap not good) ∙ stop _ _ _ (lt-ltb _ _ h)) refl
+    start_12 h = writes_refused target (starting head number target) target Space (skip _ _ _ (ap not good) ∙ stop _ _ _ (lt-ltb _ _ h)) refl
 
     pub start_written : head_length + before_holes ≤ length target → (left : List ℕ)
         → left ≡ put_in target 0 (head_bytes head.destination head.source file_protocol ++ request_before Start number)
-        → Writes target (starting head number target) outcome.Accepted left
+        → Writes target (starting head number target) (Ok tt) left
     unfolding starting request_frame
     start_written h left e =
         writes_accepted target (starting head number target) left _ (skip _ _ _ (ap not good) ∙ skip _ _ _ (le-ltb _ _ h) ∙ none_left _) e
@@ -125,9 +125,9 @@ module _ (w : Wanted) (place : ℕ) (target : List ℕ) where
       fills h = past_15 ∙ skip _ _ _ (le-ltb _ _ h) ∙ none_left _
 
   -- the promise of `write_fill`, by its answer
-  pub fill_refused : (n : ℕ) → filling w place target ≡ refused n → Fills w place target (filled.Refused n) target
-  fill_refused n e = tells_refused target (filling w place target) (λ x. put_in target 0 (fill_frame w place)) target n e refl
+  pub fill_refused : (reason : Reason) → filling w place target ≡ refused (number_of reason) → Fills w place target (Err reason) target
+  fill_refused reason e = tells_refused target (filling w place target) (λ x. put_in target 0 (fill_frame w place)) target (number_of reason) e refl
 
   pub fill_accepted : (x : Written) (left : List ℕ) → filling w place target ≡ accepted x → left ≡ put_in target 0 (fill_frame w place)
-      → Fills w place target (filled.Accepted x) left
+      → Fills w place target (Ok x) left
   fill_accepted x left e l = tells_accepted target (filling w place target) (λ y. put_in target 0 (fill_frame w place)) left x e l

@@ -1,7 +1,8 @@
 -- Reading a request frame (01, "Fill request" and "Numbered reasons").
 -- Assumes nothing.
-use Rattle.std.specs.Prelude.{Bool, cond, not, ◌&&◌, ◌||◌, List, [], ◌∷◌, ◌++◌, ℕ, ◌+◌, ◌-◌, ◌*◌, ◌/◌, ◌%◌, ltb, eqb, length}
-use Rattle.reason.specs.Answer.{Answer, accepted, refused}
+use Rattle.std.specs.Prelude.{◌≡◌, Bool, cond, not, ◌&&◌, ◌||◌, List, [], ◌∷◌, ◌++◌, ℕ, ◌+◌, ◌-◌, ◌*◌, ◌/◌, ◌%◌, ltb, eqb, length, Result}
+use Rattle.reason.specs.declared.Reason.{Reason}
+use Rattle.reason.specs.Answer.{Answer, accepted, refused, answer_of}
 use Rattle.reason.specs.Order.{Check, check, first_of}
 use Rattle.octets.specs.Numbers.{byte_at, number_at}
 use Rattle.octets.specs.Values.{values_from}
@@ -12,8 +13,6 @@ use Rattle.holes.specs.declared.Hole.{Hole}
 use Rattle.request.specs.declared.Asks.{Asks}
 use Rattle.request.specs.declared.Asks.TheVariants.{Start, Holes}
 use Rattle.request.specs.declared.Request.{Request}
-use Rattle.request.specs.declared.RequestRead.{RequestRead}
-use Rattle.request.specs.declared.RequestRead.TheVariants.{Accepted, Refused}
 use Rattle.request.specs.Request.{flags_of, block_size, holes_of_kind, before_holes, bytes_per_hole, holes_right}
 
 -- the flags ask for the start
@@ -27,6 +26,10 @@ flags_allowed flags = asks_start flags || eqb flags (flags_of Holes)
 -- what allowed flags ask for
 abbrev pub asks_by : ℕ → Asks
 asks_by flags = cond (asks_start flags) Start Holes
+
+-- The promise of reading flags: what they ask for, or reason 5.
+abbrev pub AsksBy : ℕ → Result Asks Reason → Type 0
+AsksBy flags r = answer_of r ≡ first_of (check (not (flags_allowed flags)) 5 ∷ []) (asks_by flags)
 
 -- how many holes follow, and how many bytes are left over
 abbrev pub count_in : List ℕ → ℕ
@@ -97,8 +100,3 @@ holes_read (refused n) frame = []
 -- the holes of a request frame
 abbrev pub holes_of : List ℕ → List Hole
 holes_of frame = holes_read (read_request frame) frame
-
--- the paper's number and values for each case of `read_request`'s answer
-abbrev pub request_answer : RequestRead → Answer Request
-request_answer (Accepted r) = accepted r
-request_answer (Refused n) = refused n

@@ -1,7 +1,7 @@
 -- Requests one after the other (01, "Fill request"): repeated from 0, each time from the end returned, until reason 15;
 -- and which positions they name.
 -- Assumes nothing.
-use Rattle.std.specs.Prelude.{◌≡◌, Bool, false, cond, not, ◌||◌, List, [], ◌∷◌, ◌++◌, ℕ, zero, suc, ◌+◌, ◌≤◌, length, take}
+use Rattle.std.specs.Prelude.{◌≡◌, Bool, false, cond, not, ◌||◌, List, [], ◌∷◌, ◌++◌, ℕ, zero, suc, ◌+◌, ◌≤◌, take}
 use Rattle.reason.specs.Answer.{Answer, accepted, refused}
 use Rattle.octets.specs.Lists.{Each}
 use Rattle.octets.specs.Runs.{put_in}

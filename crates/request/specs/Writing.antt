@@ -1,18 +1,18 @@
 -- Writing requests (01, "Fill request"): one that lists holes of a reception, and one for the start of a file.
 -- Assumes nothing.
-use Rattle.std.specs.Prelude.{Bool, not, ◌&&◌, List, [], ◌∷◌, ◌++◌, ℕ, ltb, length}
-use Rattle.reason.specs.Answer.{Answer, accepted, refused, WritesAndTells}
+use Rattle.std.specs.Prelude.{Bool, not, ◌&&◌, List, [], ◌∷◌, ◌++◌, ℕ, ltb, length, Result}
+use Rattle.reason.specs.declared.Reason.{Reason}
+use Rattle.reason.specs.Answer.{Answer, answer_of, WritesAndTells}
 use Rattle.reason.specs.Order.{Check, check, first_of}
 use Rattle.octets.specs.Runs.{put_in}
 use Rattle.ax25.specs.declared.Head.{Head}
 use Rattle.ax25.specs.Address.{is_writable}
+use Rattle.reception.specs.declared.File.{File}
 use Rattle.holes.specs.declared.Hole.{Hole}
 use Rattle.holes.specs.Listing.{listing_checks}
 use Rattle.holes.specs.EveryHole.{listed_from, last_end}
 use Rattle.request.specs.declared.Asks.TheVariants.{Start, Holes}
 use Rattle.request.specs.declared.Written.{Written}
-use Rattle.request.specs.declared.Filled.{Filled}
-use Rattle.request.specs.declared.Filled.TheVariants.{Accepted, Refused}
 use Rattle.request.specs.Request.{most_holes, frame_length, request_frame}
 
 -- what a station asks for: to whom and from whom the request goes, the number and length of the file, and the map of its reception
@@ -21,6 +21,10 @@ pub record Wanted : Type 0 where
   pub number : ℕ
   pub length : ℕ
   pub map : List ℕ
+
+-- what is wanted of a file by a head, where a map is lent
+abbrev pub wanted_for : Head → File → List ℕ → Wanted
+wanted_for head file map = record { head = head; number = file.number; length = file.length; map = map }
 
 -- reason 2: either address cannot be written
 abbrev pub bad_address : Head → Bool
@@ -48,14 +52,9 @@ filling w place target =
 abbrev pub fill_frame : Wanted → ℕ → List ℕ
 fill_frame w place = request_frame w.head Holes w.number (holes_from w place)
 
--- the paper's number and values for each case of `write_fill`'s answer
-abbrev pub filled_answer : Filled → Answer Written
-filled_answer (Accepted x) = accepted x
-filled_answer (Refused n) = refused n
-
 -- The promise of `write_fill`: what it answers, and that it leaves the frame in the first bytes of the target, or every byte as it was.
-abbrev pub Fills : Wanted → ℕ → List ℕ → Filled → List ℕ → Type 0
-Fills w place target r left = WritesAndTells target (filling w place target) (λ x. put_in target 0 (fill_frame w place)) (filled_answer r) left
+abbrev pub Fills : Wanted → ℕ → List ℕ → Result Written Reason → List ℕ → Type 0
+Fills w place target r left = WritesAndTells target (filling w place target) (λ x. put_in target 0 (fill_frame w place)) (answer_of r) left
 
 -- "A start request: 2, 12"
 abbrev pub start_checks : Head → List ℕ → List Check

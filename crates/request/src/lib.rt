@@ -15,13 +15,15 @@ mod reading;
 mod writing;
 
 ghost use Rattle.std.specs.Prelude.{◌≡◌};
-ghost use Rattle.reason.specs.Answer.{Writes};
-ghost use Rattle.request.specs.Reading.{request_answer, read_request, hole_read, hole_at};
-ghost use Rattle.request.specs.Writing.{Fills, starting};
+ghost use Rattle.reason.specs.Answer.{answer_of, Writes};
+ghost use Rattle.request.specs.Request.{flags_of};
+ghost use Rattle.request.specs.Reading.{AsksBy, read_request, hole_read, hole_at};
+ghost use Rattle.request.specs.Writing.{Fills, wanted_for, starting};
 
-use ax25::{Address, FILE_PROTOCOL, HEAD_LENGTH, Head, HeadRead};
+use ax25::{FILE_PROTOCOL, HEAD_LENGTH, Head};
 use holes::Hole;
-use reason::Outcome;
+use reason::Reason;
+use reception::File;
 
 // The most holes of a request.
 pub const MOST_HOLES: u32 = 49;
@@ -31,12 +33,8 @@ pub const MOST_HOLES: u32 = 49;
 // must be, and `write_fill` lends an array of the second where that asks for what it must at least be.
 pub const LONGEST_REQUEST: usize = HOLES_AT + ENTRIES;
 
-// The flags of a request for the start and of one that lists holes, and the block size of both.
-const START_FLAGS: u8 = 0x10;
-
-const LIST_FLAGS: u8 = 0x11;
-
-const BLOCK_SIZE: u16 = 244;
+// The block size of every request.
+const BLOCK_SIZE: u64 = 244;
 
 // How many bytes of information stand before the holes, where the holes start in a frame, and how many
 // bytes a hole takes.
@@ -49,15 +47,39 @@ const BYTES_PER_HOLE: usize = 5;
 // How many bytes the most holes take.
 const ENTRIES: usize = MOST_HOLES as usize * BYTES_PER_HOLE;
 
-// What a request asks for: the start of a file, or the holes that it lists.
-#[derive(Clone, Copy)]
+// What a request asks for, by its flags: the start of a file, or the holes that it lists.
+#[derive(Clone, Copy, Debug, PartialEq, Eq)]
 pub enum Asks {
-    Start,
-    Holes,
+    Start = 0x10,
+    Holes = 0x11,
+}
+
+// The flags of a request that asks for it.
+impl From<Asks> for u8 {
+    ghost from_gives = { λ asks flags. flags ≡ flags_of asks };
+
+    fn from(asks: Asks) -> u8 {
+        asks as u8
+    }
+}
+
+// What flags ask for; refuses 5.
+impl TryFrom<u8> for Asks {
+    type Error = Reason;
+
+    ghost try_from_gives = { AsksBy };
+
+    fn try_from(flags: u8) -> Result<Asks, Reason> {
+        match flags {
+            0x10 => Ok(Asks::Start),
+            0x11 => Ok(Asks::Holes),
+            _ => Err(Reason::Flags),
+        }
+    }
 }
 
 // A request's fields: both addresses, what it asks for, the file's number, and how many holes it lists.
-#[derive(Clone, Copy)]
+#[derive(Clone, Copy, Debug, PartialEq, Eq)]
 pub struct Request {
     pub head: Head,
     pub asks: Asks,
@@ -65,85 +87,60 @@ pub struct Request {
     pub count: u32,
 }
 
-// What reading a request finds: its fields, or the number of the reason.
-#[derive(Clone, Copy)]
-pub enum RequestRead {
-    Accepted(Request),
-    Refused(u8),
-}
-
 // What a written request lists: how many holes, and the end of the last, the first position behind it.
-#[derive(Clone, Copy)]
+#[derive(Clone, Copy, Debug, PartialEq, Eq)]
 pub struct Written {
     pub count: u32,
     pub end: u32,
-}
-
-// What writing a fill request answers: what it lists, or the number of the reason.
-#[derive(Clone, Copy)]
-pub enum Filled {
-    Accepted(Written),
-    Refused(u8),
 }
 
 // Writes a request for the holes of a reception, all that start at the place or later, up to 49, into the
 // first bytes of the target, and answers how many they are and the end of the last; refuses 2, 7, 12 (map),
 // 15, 12 (target).
 pub fn write_fill(
-    destination: Address,
-    source: Address,
-    number: u32,
-    length: u32,
+    head: Head,
+    file: File,
     map: &[u8],
     place: u32,
     target: &mut [u8],
-) -> Filled
-    ensures { Fills (record { head = record { destination = destination; source = source }; number = number; length = length; map = map.now })
-        place target.old result target.new }
+) -> Result<Written, Reason>
+    ensures { Fills (wanted_for head file map.now) place target.old result target.new }
 {
-    if !(ax25::writable(destination) & ax25::writable(source)) {
-        return Filled::Refused(2);
+    if !writing::writable(head) {
+        return Err(Reason::Address);
     }
     let mut entries = [0; ENTRIES];
-    let listed = gathering::gather(length, map, place, &mut entries);
-    if listed.count == 0 {
-        return Filled::Refused(listed.reason);
-    }
-    let size = (listed.count as usize) * BYTES_PER_HOLE;
+    let written = gathering::gather(file.length, map, place, &mut entries)?;
+    let size = (written.count as usize) * BYTES_PER_HOLE;
     if target.len() < HOLES_AT + size {
-        return Filled::Refused(12);
+        return Err(Reason::Space);
     }
-    writing::start_frame(target, destination, source, LIST_FLAGS, number);
+    writing::start_frame(target, head, Asks::Holes, file.number);
     octets::put(target, HOLES_AT, &entries[..size]);
-    Filled::Accepted(Written {
-        count: listed.count,
-        end: listed.end,
-    })
+    Ok(written)
 }
 
 // Writes a request for the start of a file into the first bytes of the target; refuses 2, 12.
-pub fn write_start(destination: Address, source: Address, number: u32, target: &mut [u8]) -> Outcome
-    ensures { Writes target.old (starting (record { destination = destination; source = source }) number target.old) result target.new }
+pub fn write_start(head: Head, number: u32, target: &mut [u8]) -> Result<(), Reason>
+    ensures { Writes target.old (starting head number target.old) result target.new }
 {
-    if !(ax25::writable(destination) & ax25::writable(source)) {
-        return Outcome::Refused(2);
+    if !writing::writable(head) {
+        return Err(Reason::Address);
     }
     if target.len() < HOLES_AT {
-        return Outcome::Refused(12);
+        return Err(Reason::Space);
     }
-    writing::start_frame(target, destination, source, START_FLAGS, number);
-    Outcome::Accepted
+    writing::start_frame(target, head, Asks::Start, number);
+    Ok(())
 }
 
 // Reads a frame as a request; refuses 1 (below 16), 2, 3, 4, 7 (over 255), 1 (information), 5, 7 (block
 // size, count, odd bytes), 10.
-pub fn read_request(frame: &[u8]) -> RequestRead
-    ensures { request_answer result ≡ read_request frame.now }
+pub fn read_request(frame: &[u8]) -> Result<Request, Reason>
+    ensures { answer_of result ≡ read_request frame.now }
 {
-    match ax25::read_head(frame, FILE_PROTOCOL) {
-        HeadRead::Accepted(head) => reading::read(&frame[HEAD_LENGTH..], head),
-        HeadRead::Refused(n) => RequestRead::Refused(n),
-    }
+    let head = ax25::read_head(frame, FILE_PROTOCOL)?;
+    reading::read(&frame[HEAD_LENGTH..], head)
 }
 
 // The hole with an index, counted from 0, of a request frame. Beyond the request's count, and of a frame
@@ -151,17 +148,16 @@ pub fn read_request(frame: &[u8]) -> RequestRead
 pub fn hole_at(frame: &[u8], index: u32) -> Hole
     ensures { result ≡ hole_at frame.now index }
 {
-    let read = read_request(frame);
-    hole_of(frame, read, index)
+    hole_of(frame, read_request(frame), index)
 }
 
 // The same for a frame that `read_request` has read: its answer is handed in, and the frame is not read
 // again. By the answer of another frame it hands out what stands at that place here.
-pub fn hole_of(frame: &[u8], read: RequestRead, index: u32) -> Hole
-    ensures { result ≡ hole_read (request_answer read) frame.now index }
+pub fn hole_of(frame: &[u8], read: Result<Request, Reason>, index: u32) -> Hole
+    ensures { result ≡ hole_read (answer_of read) frame.now index }
 {
     match read {
-        RequestRead::Accepted(request) => reading::below(frame, request.count, index),
-        RequestRead::Refused(_) => reading::none(),
+        Ok(request) if index < request.count => reading::hole_in_frame(frame, index),
+        _ => reading::NO_HOLE,
     }
 }

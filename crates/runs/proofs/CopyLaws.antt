@@ -9,11 +9,14 @@ use lib.ListN.{length, set, length-set}
 use lib.Seq.{get_or-set_same, get_or-set_other}
 use lib.Dec.{eqb}
 use borrow.Author.Tests.{eqb-true, eqb-false}
+use Rattle.std.specs.List.{between}
+use Rattle.std.proofs.lemmas.List.Edits.{length-between, get_or-between}
+use borrow.Rule.Slice.PartMut.{put_mid}
 use Rattle.octets.specs.Numbers.{byte_at}
 use Rattle.octets.specs.Values.{values_from}
 use Rattle.octets.specs.Runs.{put_in, Put}
 use Rattle.octets.proofs.ValueLaws.{value_at, values_long}
-use Rattle.octets.proofs.RunLaws.{put_fits, put_length, put_before, put_within, put_after}
+use Rattle.octets.proofs.RunLaws.{put_fits, put_copied, put_length, put_before, put_within, put_after}
 use Rattle.positions.specs.Spans.{within}
 use Rattle.positions.proofs.SpanLaws.{in_span, before_span, behind_span, by_span, no_between, span_join, span_one}
 use Rattle.runs.specs.Inner.{BufferRun}
@@ -76,6 +79,31 @@ module _ (new : ℕ → Bool) (from b : List ℕ) (p n : ℕ) (b' : List ℕ) (r
         ∙ then_by (within p n q) (within (p + n) k q) (new q) (byte_at from q) (byte_at b q)
         ∙ ap (λ (w : Bool). cond (w && new q) (byte_at from q) (byte_at b q)) (span_join p n k q);
   }
+
+-- what is copied in a part of a buffer is copied in the buffer
+pub copy_part : (new : ℕ → Bool) (d b : List ℕ) (p end : ℕ) (s : List ℕ) → p ≤ end → end ≤ length b → end ≤ length d
+    → BufferRun new (between p end d) (between p end b) 0 (length (between p end b)) s → BufferRun (λ q. new (q - p)) d b p (end - p) (put_mid p (end - p) b s)
+copy_part new d b p end s low here there run =
+    let size = length-between b p end here in
+    let long : end - p ≡ length s = sym (run.long ∙ size) in
+    let room : p + length s ≤ length b = omega (arith, long) in
+    let is : put_mid p (end - p) b s ≡ put_in b p s = (put_fits b p s true _ (put_copied b p (end - p) s s room long refl) room).1 in
+    rw is record {
+      long = put_length b p s room;
+      bytes = λ q _. by_span p (end - p) q
+          (λ l g. let e : p + (q - p) ≡ q = omega arith in
+          let k : p + (q - p) < end = omega arith in
+          let i : q - p < length (between p end b) = omega (arith, size) in
+          ap (byte_at (put_in b p s)) (sym e) ∙ put_within b p s room (q - p) (omega (arith, long)) ∙ run.bytes (q - p) i
+          ∙ rw (in_span 0 (length (between p end b)) (q - p) (omega arith) (omega arith), in_span p (end - p) q l g, get_or-between d p end (q - p) 0 k, get_or-between b p end (q - p) 0 k, e) refl)
+          (λ g. rw (before_span p (end - p) q g) (put_before b p s room q g))
+          (λ g. let e : p + length s + (q - (p + length s)) ≡ q = omega (arith, long) in
+          rw (behind_span p (end - p) q g) (ap (byte_at (put_in b p s)) (sym e) ∙ put_after b p s room (q - (p + length s)) ∙ ap (byte_at b) e));
+    }
+
+-- all of a list
+pub copy_all : (d b : List ℕ) (n : ℕ) → length d ≡ length b → length b ≡ n → BufferRun (λ q. true) d b 0 n d
+copy_all d b n long size = record { long = long; bytes = λ q h. rw (in_span 0 n q (omega arith) (omega arith)) refl }
 
 -- a run of bytes that stand at the same places is written
 module _ (d b : List ℕ) (p n : ℕ) (x : List ℕ) (h : p + n ≤ length b) (is : x ≡ values_from (λ k. byte_at d (p + k)) 0 n) where

@@ -1,13 +1,10 @@
 -- The positions of a map byte, compared and copied where a bit is set.
 -- Assumes nothing.
 use mathlib.Core.Path.{◌≡◌, sym}
-use mathlib.Core.Bool.{true, false, ◌&&◌}
+use mathlib.Core.Bool.{true, false}
 use mathlib.Core.List.{List}
 use Prim.Native.Nat.{ℕ, ◌-◌}
 use native.Mathlib.Omega.{arith}
-use lib.Dec.{eqb}
-use borrow.Author.Tests.{eqb-true}
-use Rattle.reason.proofs.Bools.{and_left, and_right}
 use Rattle.positions.specs.Spans.{every}
 use Rattle.positions.specs.Map.{is_set}
 use Rattle.positions.proofs.BitLaws.{set_none}
@@ -15,10 +12,6 @@ use Rattle.positions.proofs.SpanLaws.{every_same}
 use Rattle.positions.proofs.MapLaws.{full_set}
 use Rattle.runs.specs.Inner.{same_at, bit_agrees, BufferRun}
 use Rattle.runs.proofs.CopyLaws.{copy_told}
-
--- the test for a byte with every bit set and all eight positions there
-pub whole : (b n : ℕ) → (eqb b 255 && eqb n 8) ≡ true → (b ≡ 255) × (n ≡ 8)
-whole b n e = (eqb-true b 255 (and_left (eqb b 255) (eqb n 8) e), eqb-true n 8 (and_right (eqb b 255) (eqb n 8) e))
 
 module _ (asked : ℕ) (b : List ℕ) (at : ℕ) (d : List ℕ) (from : ℕ) where
   pub bit_free : (q : ℕ) → is_set asked (q - from) ≡ false → bit_agrees asked b at d from q ≡ true

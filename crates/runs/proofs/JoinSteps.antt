@@ -1,26 +1,32 @@
 -- Joining, a map byte at a time.
 -- Assumes nothing.
-use mathlib.Core.Path.{◌≡◌, refl, sym, ap, ap₂, ◌∙◌, subst}
-use mathlib.Core.Bool.{Bool, true, false, cond, not, ◌&&◌, ◌||◌}
+use mathlib.Core.Path.{◌≡◌, sym, ap, ap₂, ◌∙◌, subst}
+use mathlib.Core.Bool.{Bool, true, false, not, ◌&&◌, ◌||◌}
+use mathlib.Core.Logic.{⊎_elim}
 use mathlib.Core.List.{List}
-use Prim.Native.Nat.{ℕ, ◌+◌, ◌-◌, ◌*◌, ◌/◌, ◌%◌, ◌≤◌, ◌<◌}
-use native.Mathlib.Nat.{sub-zero}
+use Prim.Native.Nat.{ℕ, ◌+◌, ◌-◌, ◌*◌, ◌/◌, ◌%◌, ◌^◌, ◌≤◌, ◌<◌}
+use native.Mathlib.Nat.{sub-zero, zero-add}
 use native.Mathlib.Omega.{arith}
-use lib.Bits.{bit_or, bit_and}
+use lib.Bits.{bit_and}
 use lib.Count.{ones}
+use lib.Pow.{pow_pos}
 use lib.Dec.{eqb}
-use lib.ListN.{length, set}
-use borrow.Author.Tests.{not-true, not-false}
-use Rattle.reason.proofs.Bools.{and_left, and_right}
-use Rattle.octets.specs.Numbers.{byte_at, AllBytes}
-use Rattle.positions.specs.Spans.{every}
-use Rattle.positions.specs.Map.{is_set, held, map_of}
-use Rattle.positions.proofs.BitLaws.{set_none, set_and}
-use Rattle.positions.proofs.SpanLaws.{every_same, part_fails, all_if, then_pass}
+use lib.ListN.{length}
+use borrow.Author.Tests.{not-true}
+use Rattle.reason.proofs.Bools.{le_or_lt}
+use Rattle.std.specs.List.{between}
+use Rattle.std.proofs.lemmas.List.Edits.{length-between, get_or-between}
+use Rattle.octets.specs.Numbers.{byte_at}
+use Rattle.positions.specs.Spans.{within, every}
+use Rattle.positions.specs.Map.{is_set, held}
+use Rattle.positions.proofs.BitLaws.{set_none, set_and, set_low, set_high}
+use Rattle.positions.proofs.SpanLaws.{in_span, behind_span, every_same, part_fails}
 use Rattle.positions.proofs.MapLaws.{bit_of}
+use Rattle.runs.proofs.Steps.{every_join, part_agrees}
 use Rattle.runs.specs.Inner.{bit_agrees, both_agree, MapRun, BufferRun}
-use Rattle.runs.proofs.MarkLaws.{run_nothing, run_one, run_then, run_told, run_byte, fresh_is, later_same}
-use Rattle.runs.proofs.CopyLaws.{copy_nothing, copy_one, copy_then, copy_told}
+use Rattle.runs.proofs.MarkLaws.{later_same}
+use Rattle.runs.proofs.RunSteps.{run_narrow}
+use Rattle.runs.proofs.CopyLaws.{copy_nothing, copy_then, copy_told}
 
 -- ---- agreeing
 module _ (m b o d : List ℕ) where
@@ -30,100 +36,81 @@ module _ (m b o d : List ℕ) where
       every_same (bit_agrees (bit_and (byte_at m (from / 8)) (byte_at o (from / 8))) b 0 d from) (both_agree m b o d) from (end - from)
       (λ q l g. ap₂ (λ (w : Bool) (x : ℕ). not w || eqb (byte_at b q) (byte_at d x)) (set_and (byte_at m (from / 8)) (byte_at o (from / 8)) (q - from) ∙ ap₂ ◌&&◌ (bit_of m from q a l (omega arith)) (bit_of o from q a l (omega arith))) (sub-zero q))
 
-  -- by what a call answered of those positions
+  -- where a call answered that they do not, no more positions do
   pub byte_fails : (from end n : ℕ) → from % 8 ≡ 0 → from ≤ end → end ≤ from + 8 → end ≤ n
       → (r : Bool) → r ≡ every (bit_agrees (bit_and (byte_at m (from / 8)) (byte_at o (from / 8))) b 0 d from) from (end - from) → not r ≡ true
       → every (both_agree m b o d) 0 n ≡ false
   byte_fails from end n a low high h r e f =
       part_fails (both_agree m b o d) 0 n from (end - from) (omega arith) (omega arith) (sym (byte_agrees from end a low high) ∙ sym e ∙ not-true r f)
 
-  pub byte_passes : (from end : ℕ) → from % 8 ≡ 0 → from ≤ end → end ≤ from + 8
-      → (r : Bool) → r ≡ every (bit_agrees (bit_and (byte_at m (from / 8)) (byte_at o (from / 8))) b 0 d from) from (end - from) → not r ≡ false
-      → ((q : ℕ) → 0 ≤ q → q < from → both_agree m b o d q ≡ true) → (q : ℕ) → 0 ≤ q → q < end → both_agree m b o d q ≡ true
-  byte_passes from end a low high r e f before =
-      then_pass (both_agree m b o d) 0 from end low (sym (byte_agrees from end a low high) ∙ sym e ∙ not-false r f) before
+  -- .. of the parts of both buffers that have those positions
+  pub byte_asked : (from end : ℕ) → from % 8 ≡ 0 → from ≤ end → end ≤ from + 8 → end ≤ length b → end ≤ length d
+      → every (bit_agrees (bit_and (byte_at m (from / 8)) (byte_at o (from / 8))) (between from end b) 0 (between from end d) 0) 0 (length (between from end b))
+      ≡ every (both_agree m b o d) from (end - from)
+  byte_asked from end a low high here there =
+      let both = bit_and (byte_at m (from / 8)) (byte_at o (from / 8)) in
+      let s = between from end b in
+      let t = between from end d in
+      ap (every (bit_agrees both s 0 t 0) 0) (length-between b from end here)
+      ∙ part_agrees both b 0 d from (end - from) s t (omega arith) (λ k h. get_or-between b from end k 0 (omega arith)) (λ k h. let e : from + k ≡ from - 0 + k = omega arith in get_or-between d from end k 0 (omega arith) ∙ ap (byte_at d) e)
+      ∙ byte_agrees from end a low high
 
-  -- the last positions decide
-  pub byte_decides : (from n : ℕ) → from % 8 ≡ 0 → from ≤ n → n ≤ from + 8 → ((q : ℕ) → 0 ≤ q → q < from → both_agree m b o d q ≡ true)
-      → (r : Bool) → r ≡ every (bit_agrees (bit_and (byte_at m (from / 8)) (byte_at o (from / 8))) b 0 d from) from (n - from)
-      → r ≡ every (both_agree m b o d) 0 n
-  byte_decides from n a low high before true e =
-      sym (all_if (both_agree m b o d) 0 n (λ q l g. byte_passes from n a low high true e refl before q l (omega arith)))
-  byte_decides from n a low high before false e = sym (byte_fails from n n a low high (omega arith) false e refl)
+  -- .. of whole map bytes, and of what is left
+  pub bytes_and_rest : (n : ℕ) → (every (both_agree m b o d) 0 (n / 8 * 8) && every (both_agree m b o d) (n / 8 * 8) (n - n / 8 * 8)) ≡ every (both_agree m b o d) 0 n
+  bytes_and_rest n =
+      let e : n / 8 * 8 + (n - n / 8 * 8) ≡ n = omega arith in
+      ap (λ (p : ℕ). every (both_agree m b o d) 0 (n / 8 * 8) && every (both_agree m b o d) p (n - n / 8 * 8)) (sym (zero-add (n / 8 * 8)))
+      ∙ sym (every_join (both_agree m b o d) 0 (n / 8 * 8) (n - n / 8 * 8))
+      ∙ ap (every (both_agree m b o d) 0) e
 
--- ---- adding one byte
-module _ (m : List ℕ) (theirs from : ℕ) (a : from % 8 ≡ 0) (h : from / 8 < length m) (all : AllBytes m) (small : theirs < 256) where
+  -- .. by what calls answered of them
+  pub by_bytes : (n : ℕ) (r q : Bool) → r ≡ every (both_agree m b o d) 0 (n / 8 * 8) → q ≡ every (both_agree m b o d) (n / 8 * 8) (n - n / 8 * 8)
+      → (r && q) ≡ every (both_agree m b o d) 0 n
+  by_bytes n r q e f = ap₂ ◌&&◌ e f ∙ bytes_and_rest n
+
+-- where no bit is new, none is counted
+pub none_new : (m : List ℕ) (has : ℕ → Bool) (p n : ℕ) (m' : List ℕ) (new : ℕ) → MapRun m has p n m' (ones new) → new ≡ 0 → MapRun m has p n m' 0
+unfolding ones
+none_new m has p n m' new run e = rw e at run
+
+-- ---- adding the positions from the first of a map byte on and below an end
+module _ (m o : List ℕ) (from end theirs : ℕ) (a : from % 8 ≡ 0) (low : from ≤ end) (high : end ≤ from + 8) (is : theirs ≡ byte_at o (from / 8) % 2 ^ (end - from)) where
   place : from / 8 * 8 ≡ from
   place = omega arith
 
-  new_at : (q : ℕ) → from ≤ q → q < from + 8
-      → is_set (bit_and theirs (255 - byte_at m (from / 8))) (q - from) ≡ (is_set theirs (q - from) && not (held m q))
-  new_at q l g =
-      let e : from / 8 * 8 + (q - from) ≡ q = omega arith in
-      fresh_is m (from / 8) theirs h all small (q - from) (omega arith) ∙ ap (λ (p : ℕ). is_set theirs (q - from) && not (held m p)) e
+  -- the second's bits of them
+  theirs_at : (q : ℕ) → from ≤ q → q < from + 8 → is_set theirs (q - from) ≡ (within from (end - from) q && held o q)
+  theirs_at q l g =
+      ap (λ (x : ℕ). is_set x (q - from)) is
+      ∙ ⊎_elim
+      (λ h. rw (behind_span from (end - from) q (omega arith)) (set_high (end - from) (byte_at o (from / 8) % 2 ^ (end - from)) (q - from) (omega (arith, pow_pos (end - from))) (omega arith)))
+      (λ h. rw (in_span from (end - from) q l (omega arith)) (set_low (end - from) (byte_at o (from / 8)) (q - from) (omega arith) ∙ bit_of o from q a l g))
+      (le_or_lt end q)
 
-  module _ (e : bit_and theirs (255 - byte_at m (from / 8)) ≡ 0) where
-    none_new : (q : ℕ) → from ≤ q → q < from + 8 → (is_set theirs (q - from) && not (held m q)) ≡ false
-    none_new q l g = sym (new_at q l g) ∙ ap (λ (x : ℕ). is_set x (q - from)) e ∙ set_none (q - from)
+  pub byte_held : (m' : List ℕ) (r : ℕ) → MapRun m (λ q. is_set theirs (q - from / 8 * 8)) (from / 8 * 8) 8 m' r → MapRun m (held o) from (end - from) m' r
+  byte_held m' r run =
+      run_narrow m (λ q. is_set theirs (q - from / 8 * 8)) (from / 8 * 8) 8 m' r run (held o) from (end - from) (omega arith) (omega arith)
+      (λ q l g. ap (λ (p : ℕ). is_set theirs (q - p)) place ∙ theirs_at q (omega arith) (omega arith))
 
-    pub byte_nothing : MapRun m (λ q. is_set theirs (q - from)) from 8 m 0
-    byte_nothing = run_nothing m (λ q. is_set theirs (q - from)) from 8 all none_new
+  -- .. and those of them that are new
+  module _ (new : ℕ) (fresh : (k : ℕ) → k < 8 → is_set new k ≡ (is_set theirs k && not (held m (from / 8 * 8 + k)))) where
+    new_at : (q : ℕ) → from ≤ q → q < from + (end - from) → is_set new (q - from) ≡ (held o q && not (held m q))
+    new_at q l g =
+        let e : from / 8 * 8 + (q - from) ≡ q = omega arith in
+        fresh (q - from) (omega arith)
+        ∙ ap₂ (λ (b : Bool) (p : ℕ). b && not (held m p)) (theirs_at q l (omega arith)) e
+        ∙ ap (λ (b : Bool). b && held o q && not (held m q)) (in_span from (end - from) q l g)
 
-    pub byte_not_copied : (d b : List ℕ) → BufferRun (λ q. is_set theirs (q - from) && not (held m q)) d b from 8 b
-    byte_not_copied d b = copy_nothing (λ q. is_set theirs (q - from) && not (held m q)) d b from 8 none_new
+    pub byte_copied : (d b b' : List ℕ) → BufferRun (λ q. is_set new (q - from)) d b from (end - from) b'
+        → BufferRun (λ q. held o q && not (held m q)) d b from (end - from) b'
+    byte_copied d b b' run = copy_told (λ q. is_set new (q - from)) d b from (end - from) b' run (λ q. held o q && not (held m q)) new_at
 
-  pub byte_held : (r : ℕ) → r ≡ ones (bit_and theirs (255 - byte_at m (from / 8)))
-      → MapRun m (λ q. is_set theirs (q - from)) from 8 (set m (from / 8) (bit_or (byte_at m (from / 8)) theirs)) r
-  byte_held r counts =
-      subst (λ (p : ℕ). MapRun m (λ q. is_set theirs (q - p)) p 8 (set m (from / 8) (bit_or (byte_at m (from / 8)) theirs)) r) place
-      (rw counts (run_byte m (from / 8) theirs h all small))
-
-  pub byte_copied : (d b b' : List ℕ) → BufferRun (λ q. is_set (bit_and theirs (255 - byte_at m (from / 8))) (q - from)) d b from 8 b'
-      → BufferRun (λ q. is_set theirs (q - from) && not (held m q)) d b from 8 b'
-  byte_copied d b b' run =
-      copy_told (λ q. is_set (bit_and theirs (255 - byte_at m (from / 8))) (q - from)) d b from 8 b' run
-      (λ q. is_set theirs (q - from) && not (held m q)) new_at
-
--- .. told by the second's map
-module _ (m o : List ℕ) (p : ℕ) (a : p % 8 ≡ 0) where
-  pub byte_told : (m' : List ℕ) (r : ℕ) → MapRun m (λ q. is_set (byte_at o (p / 8)) (q - p)) p 8 m' r → MapRun m (held o) p 8 m' r
-  byte_told m' r run = run_told m (λ q. is_set (byte_at o (p / 8)) (q - p)) p 8 m' r run (held o) (λ q l g. bit_of o p q a l g)
-
-  pub byte_copied_told : (d b b' : List ℕ) → BufferRun (λ q. is_set (byte_at o (p / 8)) (q - p) && not (held m q)) d b p 8 b'
-      → BufferRun (λ q. held o q && not (held m q)) d b p 8 b'
-  byte_copied_told d b b' run =
-      copy_told (λ q. is_set (byte_at o (p / 8)) (q - p) && not (held m q)) d b p 8 b' run (λ q. held o q && not (held m q))
-      (λ q l g. ap (λ (x : Bool). x && not (held m q)) (bit_of o p q a l g))
-
--- ---- adding one position
-module _ (m o : List ℕ) (p : ℕ) where
-  module _ (e : (held o p && not (held m p)) ≡ true) where
-    pub one_held : (m' : List ℕ) → m' ≡ map_of (λ q. held m q || eqb q p) (length m) → MapRun m (held o) p 1 m' 1
-    one_held m' is =
-        run_one m (held o) p m' (and_left (held o p) (not (held m p)) e) (not-true (held m p) (and_right (held o p) (not (held m p)) e)) is
-
-    pub one_copied : (d b : List ℕ) → p < length b → BufferRun (λ q. held o q && not (held m q)) d b p 1 (set b p (byte_at d p))
-    one_copied d b h =
-        subst (λ (w : Bool). BufferRun (λ q. held o q && not (held m q)) d b p 1 (set b p (cond w (byte_at d p) (byte_at b p)))) e
-        (copy_one (λ q. held o q && not (held m q)) d b p h)
-
-  module _ (e : (held o p && not (held m p)) ≡ false) where
-    not_new : (q : ℕ) → p ≤ q → q < p + 1 → (held o q && not (held m q)) ≡ false
-    not_new q l g = let s : q ≡ p = omega arith in rw s e
-
-    pub one_nothing : AllBytes m → MapRun m (held o) p 1 m 0
-    one_nothing all = run_nothing m (held o) p 1 all not_new
-
-    pub one_not_copied : (d b : List ℕ) → BufferRun (λ q. held o q && not (held m q)) d b p 1 b
-    one_not_copied d b = copy_nothing (λ q. held o q && not (held m q)) d b p 1 not_new
+    pub byte_not_copied : new ≡ 0 → (d b : List ℕ) → BufferRun (λ q. held o q && not (held m q)) d b from (end - from) b
+    byte_not_copied none d b =
+        byte_copied d b b (copy_nothing (λ q. is_set new (q - from)) d b from (end - from) (λ q l g. ap (λ (x : ℕ). is_set x (q - from)) none ∙ set_none (q - from)))
 
 -- ---- some more behind those so far
 module _ (m o : List ℕ) (at n : ℕ) (m' : List ℕ) (r : ℕ) (run : MapRun m (held o) at n m' r) (p k l : ℕ) (a : at + n ≡ p) (e : n + k ≡ l) where
-  pub runs_on : (m'' : List ℕ) (r' : ℕ) → MapRun m' (held o) p k m'' r' → MapRun m (held o) at l m'' (r + r')
-  runs_on m'' r' next =
-      subst (λ (i : ℕ). MapRun m (held o) at i m'' (r + r')) e
-      (run_then m (held o) at n m' r run k m'' r' (subst (λ (q : ℕ). MapRun m' (held o) q k m'' r') (sym a) next))
-
   -- what is new behind them was so before
   new_same : (q : ℕ) → p ≤ q → q < p + k → (held o q && not (held m' q)) ≡ (held o q && not (held m q))
   new_same q l g = ap (λ (y : Bool). held o q && not y) (later_same m (held o) at n m' r run q (omega arith))

@@ -1,8 +1,10 @@
 pub mod MarkLaws
+pub mod RunSteps
 pub mod CopyLaws
 pub mod EightLaws
 pub mod JoinSteps
 pub mod Steps
+pub mod PieceSteps
 pub mod OfferLaws
 pub mod OnlyOne
 pub mod Cases

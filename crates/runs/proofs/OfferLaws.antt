@@ -8,7 +8,7 @@ use native.Mathlib.Omega.{arith}
 use lib.Dec.{eqb, leb, ltb}
 use lib.ListN.{length}
 use lib.Seq.{ext_get_or}
-use borrow.Author.Tests.{eqb-true, lt-ltb, le-ltb, le-leb, leb-true, ltb-true}
+use borrow.Author.Tests.{eqb-true, lt-ltb, le-leb, leb-true, ltb-true}
 use Rattle.reason.proofs.Bools.{and_left, and_right}
 use Rattle.octets.specs.Numbers.{byte_at}
 use Rattle.octets.specs.Values.{values_from}
@@ -34,21 +34,6 @@ inside_says m b at n e =
 pub is_inside : (m b : List ℕ) (at n : ℕ) → at + n < 2 ^ 32 → map_size (at + n) ≤ length m → at + n ≤ length b → inside m b at n ≡ true
 is_inside m b at n few map buffer =
     rw (lt-ltb (at + n) (2 ^ 32) few, le-leb (map_size (at + n)) (length m) map, le-leb (at + n) (length b) buffer)
-
--- .. of both
-pub both_inside : (m b o d : List ℕ) (n : ℕ) → (inside m b 0 n && inside o d 0 n) ≡ true
-    → (n < 2 ^ 32) × (n ≤ length m * 8) × (n ≤ length b) × (n ≤ length o * 8) × (n ≤ length d)
-both_inside m b o d n e =
-    let f = inside_says m b 0 n (and_left (inside m b 0 n) (inside o d 0 n) e) in
-    let g = inside_says o d 0 n (and_right (inside m b 0 n) (inside o d 0 n) e) in
-    (omega (arith, f), omega (arith, f), omega (arith, f), omega (arith, g), omega (arith, g))
-
--- .. and what the first test says
-pub too_many : (m b : List ℕ) (at n : ℕ) → 2 ^ 32 ≤ at + n → inside m b at n ≡ false
-too_many m b at n h = rw (le-ltb (at + n) (2 ^ 32) h)
-
-pub not_too_many : (m b : List ℕ) (at n : ℕ) → at + n < 2 ^ 32 → inside m b at n ≡ (leb (map_size (at + n)) (length m) && leb (at + n) (length b))
-not_too_many m b at n h = rw (lt-ltb (at + n) (2 ^ 32) h)
 
 -- ---- the promise
 module _ (fits : Bool) (m b : List ℕ) (o : Offer) (made : List ℕ) where

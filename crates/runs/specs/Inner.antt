@@ -1,14 +1,16 @@
 -- What the private functions promise each other (01, "Reception"): the questions of the other files, asked of map bytes and of
 -- runs of positions. No promise of a public function cites it.
 -- Assumes nothing.
-use Rattle.std.specs.Prelude.{◌≡◌, Bool, true, false, cond, not, ◌&&◌, ◌||◌, List, ℕ, ◌+◌, ◌-◌, ◌*◌, ◌%◌, ◌<◌, eqb, leb, length}
+use Rattle.std.specs.Prelude.{◌≡◌, Bool, cond, not, ◌&&◌, ◌||◌, List, ℕ, ◌+◌, ◌-◌, ◌*◌, ◌^◌, ◌<◌, ◌≤◌, eqb, leb, length}
 use Rattle.octets.specs.Numbers.{byte_at, AllBytes}
 use Rattle.positions.specs.Spans.{within, count}
 use Rattle.positions.specs.Map.{is_set, held}
 
--- 8 where a whole byte below the end starts at p, else 1
-abbrev pub span_at : ℕ → ℕ → ℕ
-span_at p end = cond (eqb (p % 8) 0 && leb (p + 8) end) 8 1
+-- the positions below an end lie inside a map and a buffer, and are numbers of 32 bits
+pub record Within (map buffer : List ℕ) (end : ℕ) : Type 0 where
+  pub few : end < 2 ^ 32
+  pub mapped : end ≤ length map * 8
+  pub buffered : end ≤ length buffer
 
 -- where the eight positions from p on that are below n end
 abbrev pub up_to : ℕ → ℕ → ℕ

@@ -4,6 +4,9 @@
 // byte with nothing to do is passed over, one with all eight positions is done at once. Every function answers
 // for all that it is lent: where the positions do not lie inside the maps and buffers, those that compare answer
 // false, and those that write change nothing and answer 0. The contracts cite `specs/Offers.antt`.
+//
+// Kept: a map and a buffer that are written are two parameters, since a struct of two `&mut` needs a clause in every
+// contract that each is the same reference still.
 #![tactic(auto)]
 
 mod eights;
@@ -14,31 +17,32 @@ ghost use Rattle.std.specs.Prelude.{◌≡◌, ◌&&◌, length};
 ghost use Rattle.runs.specs.Offers.{piece_at, held_in, agrees, inside, PutsPiece, AddsHeld};
 
 // The most positions: their count is a number of 32 bits.
-const MOST: usize = 4294967295;
+const MOST: usize = u32::MAX as usize;
+
+// A map and a buffer that are lent to be read.
+#[derive(Clone, Copy, Debug, PartialEq, Eq)]
+pub struct Held<'a> {
+    pub map: &'a [u8],
+    pub buffer: &'a [u8],
+}
 
 // Whether the n positions from a position on lie inside a map and a buffer.
-fn inside(map: &[u8], buffer: &[u8], at: usize, n: usize) -> bool
-    ensures { result ≡ inside map.now buffer.now at n }
+fn inside(held: Held, at: usize, n: usize) -> bool
+    ensures { result ≡ inside held.entry.map.now held.entry.buffer.now at n }
 {
-    if MOST < n {
-        return false;
-    }
-    if MOST - n < at {
-        return false;
-    }
-    ((at + n + 7) / 8 <= map.len()) & (at + n <= buffer.len())
+    n <= MOST
+        && at <= MOST - n
+        && (at + n).div_ceil(8) <= held.map.len()
+        && at + n <= held.buffer.len()
 }
 
 // Whether a piece, put at a position, agrees with every byte that is held; false where it does not lie inside
 // the map and the buffer.
-pub fn piece_agrees(map: &[u8], buffer: &[u8], at: usize, piece: &[u8]) -> bool
-    ensures { result ≡ (inside map.now buffer.now at (length piece.now)
-        && agrees map.now buffer.now (piece_at at piece.now)) }
+pub fn piece_agrees(held: Held, at: usize, piece: &[u8]) -> bool
+    ensures { result ≡ (inside held.entry.map.now held.entry.buffer.now at (length piece.now)
+        && agrees held.entry.map.now held.entry.buffer.now (piece_at at piece.now)) }
 {
-    if !inside(map, buffer, at, piece.len()) {
-        return false;
-    }
-    pieces::agree(map, buffer, at, piece)
+    inside(held, at, piece.len()) && pieces::agree(held, at, piece)
 }
 
 // Writes the bytes of a piece from a position on, and its positions become held; how many were not. Where it
@@ -46,7 +50,7 @@ pub fn piece_agrees(map: &[u8], buffer: &[u8], at: usize, piece: &[u8]) -> bool
 pub fn put_piece(map: &mut [u8], buffer: &mut [u8], at: usize, piece: &[u8]) -> u32
     ensures { PutsPiece map.old buffer.old at piece.now result map.new buffer.new }
 {
-    if !inside(map, buffer, at, piece.len()) {
+    if !inside(Held { map, buffer }, at, piece.len()) {
         return 0;
     }
     pieces::write(map, buffer, at, piece)
@@ -54,35 +58,20 @@ pub fn put_piece(map: &mut [u8], buffer: &mut [u8], at: usize, piece: &[u8]) -> 
 
 // Whether two maps and buffers agree at each of the first n positions that both hold; false where these do not
 // lie inside both.
-pub fn both_agree(
-    map: &[u8],
-    buffer: &[u8],
-    second_map: &[u8],
-    second_buffer: &[u8],
-    n: usize,
-) -> bool
-    ensures { result ≡ (inside map.now buffer.now 0 n && inside second_map.now second_buffer.now 0 n
-        && agrees map.now buffer.now (held_in n second_map.now second_buffer.now)) }
+pub fn both_agree(held: Held, second: Held, n: usize) -> bool
+    ensures { result ≡ (inside held.entry.map.now held.entry.buffer.now 0 n && inside second.entry.map.now second.entry.buffer.now 0 n
+        && agrees held.entry.map.now held.entry.buffer.now (held_in n second.entry.map.now second.entry.buffer.now)) }
 {
-    if !(inside(map, buffer, 0, n) & inside(second_map, second_buffer, 0, n)) {
-        return false;
-    }
-    joins::agree(map, buffer, second_map, second_buffer, n)
+    inside(held, 0, n) && inside(second, 0, n) && joins::agree(held, second, n)
 }
 
 // Copies each of the first n positions that only the second map holds into the first; how many they are. Where
 // these do not lie inside both, nothing changes.
-pub fn add_held(
-    map: &mut [u8],
-    buffer: &mut [u8],
-    second_map: &[u8],
-    second_buffer: &[u8],
-    n: usize,
-) -> u32
-    ensures { AddsHeld map.old buffer.old second_map.now second_buffer.now n result map.new buffer.new }
+pub fn add_held(map: &mut [u8], buffer: &mut [u8], second: Held, n: usize) -> u32
+    ensures { AddsHeld map.old buffer.old second.entry.map.now second.entry.buffer.now n result map.new buffer.new }
 {
-    if !(inside(map, buffer, 0, n) & inside(second_map, second_buffer, 0, n)) {
+    if !inside(Held { map, buffer }, 0, n) || !inside(second, 0, n) {
         return 0;
     }
-    joins::add(map, buffer, second_map, second_buffer, n)
+    joins::add(map, buffer, second, n)
 }

@@ -1,97 +1,81 @@
-// Taking a piece in: whether it agrees with what is held, and its positions marked.
-ghost use Rattle.std.specs.Prelude.{◌≡◌, true, ◌+◌, ◌*◌, ◌/◌, ◌≤◌, ◌<◌, ◌^◌, length};
+// Taking a piece in: whether it agrees with what is held, and its bytes written and its positions held.
+ghost use Rattle.std.specs.Prelude.{◌≡◌, true, ◌+◌, ◌-◌, ◌*◌, ◌/◌, ◌≤◌, ◌<◌, ◌^◌, length};
 ghost use Rattle.octets.specs.Runs.{put_in};
-ghost use Rattle.positions.specs.Spans.{every};
-ghost use Rattle.runs.specs.Inner.{piece_agrees, span_at, MapRun};
+ghost use Rattle.runs.specs.Offers.{piece_at, agrees};
+ghost use Rattle.runs.specs.Inner.{up_to, Within, MapRun};
 
-use super::eights;
+use super::{Held, eights, joins};
 
-// Whether the piece, put at a position, agrees with every byte that is held. A map byte
-// is looked at once.
-pub(crate) fn agree(map: &[u8], buffer: &[u8], at: usize, piece: &[u8]) -> bool
-    requires { (at + length piece.now < 2 ^ 32) × (at + length piece.now ≤ length map.now * 8) × (at + length piece.now ≤ length buffer.now) }
-    ensures { result ≡ every (piece_agrees map.now buffer.now at piece.now) at (length piece.now) }
+// Where the positions of the map byte of a position that are below an end do end.
+fn byte_end(p: usize, end: usize) -> usize
+    requires { (p < 2 ^ 32) × (end < 2 ^ 32) }
+    ensures { result ≡ up_to (p / 8 * 8) end }
+{
+    end.min(p / 8 * 8 + 8)
+}
+
+// Whether the piece, put at a position, agrees with every byte that is held. Behind the positions of its first map
+// byte it is compared as a second reception that holds what the first does.
+pub(crate) fn agree(held: Held, at: usize, piece: &[u8]) -> bool
+    requires { Within held.map.now held.buffer.now (at + length piece.now) }
+    ensures { result ≡ agrees held.entry.map.now held.entry.buffer.now (piece_at at piece.now) }
 {
     let end = at + piece.len();
-    let mut p = at;
-    while p < end {
-        let next = eights::byte_end(p / 8 * 8, end);
-        if !eights::agree_byte(map[p / 8] >> (p % 8), buffer, at, piece, p, next) {
-            return false;
-        }
-        p = next;
+    if at == end {
+        return true;
     }
-    true
+    let start = byte_end(at, end);
+    let (head, rest) = piece.split_at(start - at);
+    if !eights::agree(held.map[at / 8] >> (at % 8), &held.buffer[at..start], head) {
+        return false;
+    }
+    if start == end {
+        return true;
+    }
+    let map = &held.map[start / 8..];
+    let buffer = &held.buffer[start..];
+    joins::agree(Held { map, buffer }, Held { map, buffer: rest }, rest.len())
 }
 
-// How many positions from p on are marked in one step: 8 where a whole byte below `end` starts at p,
-// else 1.
-fn span(p: usize, end: usize) -> usize
-    requires { (p < end) × (end < 2 ^ 32) }
-    ensures { result ≡ span_at p end }
+// The positions from `from` on and below `end`, which are of one map byte, become held; how many were not.
+fn hold_byte(map: &mut [u8], from: usize, end: usize) -> u32
+    requires { (from < end) × (end ≤ from / 8 * 8 + 8) × (end ≤ length map.old * 8) }
+    ensures { MapRun map.old (λ q. true) from (end - from) map.new result }
 {
-    if p % 8 == 0 {
-        if p + 8 <= end {
-            return 8;
-        }
-    }
-    1
+    let asked = positions::lowest(255, end - from / 8 * 8) & !positions::lowest(255, from % 8);
+    let new = eights::hold(map, from / 8, asked);
+    positions::count_set(new)
 }
 
-// Position p becomes held; 1 if it was not, else 0.
-fn hold_one(map: &mut [u8], p: usize) -> u32
-    requires { p / 8 < length map.old }
-    ensures { MapRun map.old (λ q. true) p 1 map.new result }
+// The positions from `at` on and below `end` become held; how many were not.
+fn hold(map: &mut [u8], at: usize, end: usize) -> u32
+    requires { (at ≤ end) × (end < 2 ^ 32) × (end ≤ length map.old * 8) }
+    ensures { MapRun map.old (λ q. true) at (end - at) map.new result }
 {
-    if !positions::is_held(map, p) {
-        positions::mark(map, p);
-        return 1;
+    if at == end {
+        return 0;
     }
-    0
-}
-
-// The eight positions of map byte i become held; how many were not.
-fn hold_eight(map: &mut [u8], i: usize) -> u32
-    requires { i < length map.old }
-    ensures { MapRun map.old (λ q. true) (i * 8) 8 map.new result }
-{
-    let held = positions::count_set(map[i]);
-    map[i] = 255;
-    8 - held
-}
-
-// The positions of one step from p on become held; how many were not.
-fn hold_next(map: &mut [u8], p: usize, end: usize) -> u32
-    requires { (p < end) × (end < 2 ^ 32) × (end ≤ length map.old * 8) }
-    ensures { MapRun map.old (λ q. true) p (span_at p end) map.new result }
-{
-    if span(p, end) == 8 {
-        return hold_eight(map, p / 8);
+    let start = byte_end(at, end);
+    let mut new = hold_byte(map, at, start);
+    if start == end {
+        return new;
     }
-    hold_one(map, p)
-}
-
-// The n positions from a position on become held; how many were not.
-fn hold(map: &mut [u8], at: usize, n: usize) -> u32
-    requires { (at + n < 2 ^ 32) × (at + n ≤ length map.old * 8) }
-    ensures { MapRun map.old (λ q. true) at n map.new result }
-{
-    let end = at + n;
-    let mut new = 0;
-    let mut p = at;
-    while p < end {
-        new += hold_next(map, p, end);
-        p += span(p, end);
+    for i in start / 8..end / 8 {
+        new += hold_byte(map, i * 8, i * 8 + 8);
     }
-    new
+    if end % 8 == 0 {
+        return new;
+    }
+    new + hold_byte(map, end / 8 * 8, end)
 }
 
 // Writes the bytes of a piece, and its positions become held; how many were not.
 pub(crate) fn write(map: &mut [u8], buffer: &mut [u8], at: usize, piece: &[u8]) -> u32
-    requires { (at + length piece.now < 2 ^ 32) × (at + length piece.now ≤ length map.old * 8) × (at + length piece.now ≤ length buffer.old) }
+    requires { Within map.old buffer.old (at + length piece.now) }
     ensures map_run { MapRun map.old (λ q. true) at (length piece.now) map.new result }
     ensures buffer_after { buffer.new ≡ put_in buffer.old at piece.now }
 {
-    octets::put(buffer, at, piece);
-    hold(map, at, piece.len())
+    let end = at + piece.len();
+    buffer[at..end].copy_from_slice(piece);
+    hold(map, at, end)
 }

@@ -6,21 +6,18 @@ use mathlib.Core.List.{List, [], ◌∷◌}
 use Prim.Native.Nat.{ℕ, ◌^◌, ◌≤◌, ◌<◌}
 use native.Mathlib.Omega.{arith}
 use lib.ListN.{length, take}
-use Rattle.reason.specs.declared.Outcome.{Outcome}
-use Rattle.reason.specs.Answer.{Answer, accepted, leaving}
+use Rattle.std.specs.Prelude.{Result}
+use Rattle.reason.specs.declared.Reason.{Reason}
+use Rattle.reason.specs.Answer.{Answer, accepted, leaving, answer_of}
 use Rattle.octets.specs.Numbers.{AllBytes}
 use Rattle.octets.specs.Runs.{put_in}
-use Rattle.reception.specs.declared.Added.{Added}
+use Rattle.reception.specs.declared.File.{File}
 use Rattle.reception.specs.Reception.{Reception, wrong_length, short_space}
 use Rattle.reception.specs.Adding.{Offer, after, Adds}
 use Rattle.reception.specs.Opening.{opening, opened, opened_map, opened_buffer, Opens}
 use Rattle.reception.specs.Contents.{HoldsOf}
-use Rattle.record.specs.declared.Recorded.{Recorded}
-use Rattle.record.specs.declared.RecordRead.{RecordRead}
-use Rattle.record.specs.declared.Saved.{Saved}
 use Rattle.record.specs.Record.{record_of, record_length}
-use Rattle.record.specs.Saving.{saved_answer, Saves}
-use Rattle.record.specs.Reading.{record_answer}
+use Rattle.record.specs.Saving.{Saves}
 use Rattle.record.specs.Loading.{loaded_map, loaded_buffer, loaded, Loads}
 use Rattle.record.proofs.RoundTrip.{record_stands, holding_is_saved, holding_is_loaded, holding_is_given_back}
 use Rattle.station.specs.Lent.{Lent, reception_in}
@@ -33,7 +30,7 @@ in_these : (number l : ℕ) (left : Lent) (map buffer : List ℕ) → left.map �
 in_these number l left map buffer m b = ap₂ (λ (x y : List ℕ). reception_in number l (record { map = x; buffer = y })) m b
 
 -- `open`, where the file opens
-pub open_leaves : (number l : ℕ) (lent left : Lent) (r : Outcome) → opening l lent.map lent.buffer ≡ accepted tt
+pub open_leaves : (number l : ℕ) (lent left : Lent) (r : Result Unit Reason) → opening l lent.map lent.buffer ≡ accepted tt
     → Opens l lent.map lent.buffer r left.map left.buffer → reception_in number l left ≡ opened number l lent.map lent.buffer
 open_leaves number l lent left r e o =
     in_these number l left (opened_map l lent.map) (opened_buffer l lent.buffer)
@@ -41,7 +38,7 @@ open_leaves number l lent left r e o =
     (o.leaves_buffer ∙ ap (leaving (λ u. opened_buffer l lent.buffer) lent.buffer) e)
 
 -- `take` and `join`
-pub adding_leaves : (s : Reception) (o : Offer) (answer : Answer ℕ) (r : Added) (left : Lent) → Adds s o answer r left.map left.buffer
+pub adding_leaves : (s : Reception) (o : Offer) (answer : Answer ℕ) (r : Result ℕ Reason) (left : Lent) → Adds s o answer r left.map left.buffer
     → reception_in s.number s.length left ≡ after s o answer
 adding_leaves s o answer r left a =
     in_these s.number s.length left (after s o answer).map (after s o answer).buffer a.leaves_map a.leaves_buffer
@@ -56,8 +53,8 @@ calls_take number l u v (w ∷ ws) (more lent left last frame frames r t rest) =
 
 module _ (number l : ℕ) (file : List ℕ) (ok : wrong_length l ≡ false) (set : ℕ → Bool) (s : Reception) (h : HoldsOf number l file set s) where
   -- `save`, into a target with room
-  pub save_leaves : (target left : List ℕ) (r : Saved) → record_length l ≤ length target → Saves s target r left
-      → (saved_answer r ≡ accepted (record_length l)) × (take (record_length l) left ≡ record_of s)
+  pub save_leaves : (target left : List ℕ) (r : Result ℕ Reason) → record_length l ≤ length target → Saves s target r left
+      → (answer_of r ≡ accepted (record_length l)) × (take (record_length l) left ≡ record_of s)
   save_leaves target left r room w =
       let e = holding_is_saved number l file set s h ok target room in
       let z = h.sized in (
@@ -67,17 +64,17 @@ module _ (number l : ℕ) (file : List ℕ) (ok : wrong_length l ≡ false) (set
       )
 
   -- `load`, into a map and a buffer that are long enough
-  pub load_leaves : number < 256 ^ 4 → (lent left : Lent) (r : RecordRead) → AllBytes lent.map → short_space l lent.map lent.buffer ≡ false
+  pub load_leaves : number < 256 ^ 4 → (lent left : Lent) (r : Result File Reason) → AllBytes lent.map → short_space l lent.map lent.buffer ≡ false
       → Loads (record_of s) lent.map lent.buffer r left.map left.buffer
-      → (record_answer r ≡ accepted (record { number = number; length = l }))
+      → (answer_of r ≡ accepted (record { number = number; length = l }))
       × (reception_in number l left ≡ loaded (record_of s) lent.map lent.buffer)
   load_leaves four lent left r bytes room w =
       let e = holding_is_loaded number l file set s h ok four lent.map lent.buffer room bytes in
       let back = holding_is_given_back number l file set s h ok four lent.map lent.buffer room bytes in (
         w.answers ∙ e,
         in_these number l left (loaded_map (record_of s) lent.map) (loaded_buffer (record_of s) lent.buffer)
-            (w.leaves_map ∙ ap (leaving (λ (x : Recorded). loaded_map (record_of s) lent.map) lent.map) e)
-            (w.leaves_buffer ∙ ap (leaving (λ (x : Recorded). loaded_buffer (record_of s) lent.buffer) lent.buffer) e)
+            (w.leaves_map ∙ ap (leaving (λ (x : File). loaded_map (record_of s) lent.map) lent.map) e)
+            (w.leaves_buffer ∙ ap (leaving (λ (x : File). loaded_buffer (record_of s) lent.buffer) lent.buffer) e)
             ∙ ap₂ (λ (n k : ℕ). record { number = n; length = k; map = loaded_map (record_of s) lent.map; buffer = loaded_buffer (record_of s) lent.buffer })
             (sym back.numbered) (sym back.sized),
       )

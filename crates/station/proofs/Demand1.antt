@@ -8,65 +8,35 @@ use Prim.Native.Nat.{ℕ, ◌≤◌}
 use native.Mathlib.Omega.{arith}
 use lib.Dec.{leb}
 use borrow.Author.Tests.{leb-true}
-use Rattle.reason.specs.declared.Outcome.{Outcome}
-use Rattle.reason.specs.declared.Outcome.TheVariants as done
-use Rattle.reason.specs.Answer.{Answer, accepted, refused, telling, leaving, outcome, Writes, WritesAndTells}
+use Rattle.std.specs.Prelude.{Result}
+use Rattle.reason.specs.declared.Reason.{Reason}
+use Rattle.reason.specs.Answer.{Answer, accepted, refused, telling, leaving, answer_of, Writes, WritesAndTells}
 use Rattle.reason.specs.Order.{Check, check, first_of, First, NoneHolds, Exactly}
 use Rattle.reason.proofs.Bools.{and_left, and_right}
 use Rattle.reason.proofs.OrderLaws.{not_both, exactly, answered, accepted_only_if}
-use Rattle.ax25.specs.declared.Address.{Address}
-use Rattle.ax25.specs.declared.AddressRead.{AddressRead}
-use Rattle.ax25.specs.declared.AddressRead.TheVariants as address
-use Rattle.ax25.specs.declared.Head.{Head}
-use Rattle.ax25.specs.declared.HeadRead.{HeadRead}
-use Rattle.ax25.specs.declared.HeadRead.TheVariants as head
-use Rattle.ax25.specs.Address.{read_address, address_answer, write_address}
-use Rattle.ax25.specs.Head.{head_checks, read_head, head_answer, write_head}
+use Rattle.reason.proofs.Reasons.{answer_met}
+use Rattle.ax25.specs.Address.{read_address, write_address}
+use Rattle.ax25.specs.Head.{head_checks, read_head, write_head}
 use Rattle.ax25.proofs.InOrder.{read_address_in_order, write_address_in_order, read_head_in_order, write_head_in_order}
-use Rattle.header.specs.declared.Header.{Header}
-use Rattle.header.specs.declared.HeaderRead.{HeaderRead}
-use Rattle.header.specs.declared.HeaderRead.TheVariants as header
-use Rattle.header.specs.Header.{read_header, header_answer}
+use Rattle.header.specs.Header.{read_header}
 use Rattle.header.proofs.InOrder.{read_header_in_order}
-use Rattle.frame.specs.declared.Piece.{Piece}
-use Rattle.frame.specs.declared.PieceRead.{PieceRead}
-use Rattle.frame.specs.declared.PieceRead.TheVariants as framed
-use Rattle.frame.specs.declared.Entry.{Entry}
-use Rattle.frame.specs.declared.EntryRead.{EntryRead}
-use Rattle.frame.specs.declared.EntryRead.TheVariants as entry
-use Rattle.frame.specs.Piece.{piece_answer, piece_checks, read_piece}
-use Rattle.frame.specs.Entry.{entry_answer, entry_checks, read_entry}
+use Rattle.frame.specs.Piece.{piece_checks, read_piece}
+use Rattle.frame.specs.Entry.{entry_checks, read_entry}
 use Rattle.frame.proofs.InOrder.{read_piece_in_order, read_entry_in_order}
-use Rattle.reception.specs.declared.Added.{Added}
-use Rattle.reception.specs.declared.Added.TheVariants as added
-use Rattle.holes.specs.declared.Hole.{Hole}
-use Rattle.holes.specs.declared.Listed.{Listed}
-use Rattle.holes.specs.declared.Listed.TheVariants as listed
 use Rattle.reception.specs.Reception.{Reception}
-use Rattle.reception.specs.Adding.{Offer, of_piece, new_in, map_with, buffer_with, after, added_answer, Adds}
+use Rattle.reception.specs.Adding.{Offer, of_piece, new_in, map_with, buffer_with, after, Adds}
 use Rattle.reception.specs.Opening.{opening, opened_map, opened_buffer}
 use Rattle.reception.specs.Taking.{taking}
 use Rattle.reception.specs.Joining.{joining}
-use Rattle.holes.specs.Listing.{listing, listed_answer}
+use Rattle.holes.specs.Listing.{listing}
 use Rattle.reception.proofs.InOrder as piece
 use Rattle.reception.proofs.InOrder.{open_in_order, join_in_order}
 use Rattle.holes.proofs.InOrder.{list_in_order}
-use Rattle.request.specs.declared.Request.{Request}
-use Rattle.request.specs.declared.RequestRead.{RequestRead}
-use Rattle.request.specs.declared.RequestRead.TheVariants as request
-use Rattle.request.specs.declared.Written.{Written}
-use Rattle.request.specs.declared.Filled.{Filled}
-use Rattle.request.specs.declared.Filled.TheVariants as filled
-use Rattle.request.specs.Reading.{request_answer, request_checks, read_request}
-use Rattle.request.specs.Writing.{filling, filled_answer, starting}
+use Rattle.request.specs.Reading.{request_checks, read_request}
+use Rattle.request.specs.Writing.{filling, starting}
 use Rattle.request.proofs.InOrder.{read_request_in_order, write_fill_in_order, write_start_in_order}
-use Rattle.record.specs.declared.Recorded.{Recorded}
-use Rattle.record.specs.declared.RecordRead.{RecordRead}
-use Rattle.record.specs.declared.RecordRead.TheVariants as recorded
-use Rattle.record.specs.declared.Saved.{Saved}
-use Rattle.record.specs.declared.Saved.TheVariants as saved
-use Rattle.record.specs.Saving.{saving, saved_answer}
-use Rattle.record.specs.Reading.{read_record, record_answer}
+use Rattle.record.specs.Saving.{saving}
+use Rattle.record.specs.Reading.{read_record}
 use Rattle.record.specs.Loading.{loading, loaded_map, loaded_buffer}
 use Rattle.record.proofs.InOrder.{save_in_order, load_in_order, read_record_in_order}
 use Rattle.taking.specs.Taking.{piece_data_in, taking_order, taking_frame}
@@ -102,13 +72,19 @@ in_table_lem (check holds m ∷ checks) t n (inl first) =
     (omega (arith, low, is), omega (arith, high, is))
 in_table_lem (check holds m ∷ checks) t n (inr later) = in_table_lem checks (and_right (leb 1 m && leb m last_reason) (in_table checks) t) n later.1
 
--- the law for all operations: by the definition's answer, that the promise gives it, and that a refusal leaves what was lent
-module _ {R A L : Type 0} (checks : List Check) (value : A) (means : R → Answer A) (lent : L) (promise : R → L → Type 0) (answer : Answer A)
-    (table : in_table checks ≡ true) (order : Exactly checks value answer) (gives : (r : R) (left : L) → promise r left → means r ≡ answer)
-    (keeps : (r : R) (left : L) → promise r left → (n : ℕ) → answer ≡ refused n → left ≡ lent) (met : (r : R) × ((left : L) × promise r left)) where
-  by_order : Answers checks value means lent promise
+-- the law for all operations: by the definition's answer, that the promise gives it, and that a refusal leaves what was lent. There is an
+-- answer, since the numbers of an order are those of reasons: a result with the answer's meaning, which meets the promise with what is left.
+module _ {A L : Type 0} (checks : List Check) (value : A) (lent : L) (promise : Result A Reason → L → Type 0) (answer : Answer A)
+    (table : in_table checks ≡ true) (order : Exactly checks value answer)
+    (gives : (r : Result A Reason) (left : L) → promise r left → answer_of r ≡ answer)
+    (keeps : (r : Result A Reason) (left : L) → promise r left → (n : ℕ) → answer ≡ refused n → left ≡ lent)
+    (left : L) (meets : (r : Result A Reason) → answer_of r ≡ answer → promise r left) where
+  some_answer : (r : Result A Reason) × (answer_of r ≡ answer)
+  some_answer = answer_met answer (λ n e. in_table_lem checks table n (order.refuses_only_if n e))
+
+  by_order : Answers checks value lent promise
   by_order = record {
-    met = met;
+    met = (some_answer.0, (left, meets some_answer.0 some_answer.1));
     answered = some_or_none checks;
     numbered = in_table_lem checks table;
     refuses_if = λ r left p n first. gives r left p ∙ order.refuses_if n first;
@@ -117,55 +93,6 @@ module _ {R A L : Type 0} (checks : List Check) (value : A) (means : R → Answe
     accepts_only_if = λ r left p a e. order.accepts_only_if a (sym (gives r left p) ∙ e);
     leaves = λ r left p n e. keeps r left p n (sym (gives r left p) ∙ e);
   }
-
--- every answer is the meaning of a case of each enum
-some_outcome : (x : Answer (Unit {0})) → (r : Outcome) × (outcome r ≡ x)
-some_outcome (accepted a) = (done.Accepted, refl)
-some_outcome (refused n) = (done.Refused n, refl)
-
-some_piece : (x : Answer Piece) → (r : PieceRead) × (piece_answer r ≡ x)
-some_piece (accepted a) = (framed.Accepted a, refl)
-some_piece (refused n) = (framed.Refused n, refl)
-
-some_entry : (x : Answer Entry) → (r : EntryRead) × (entry_answer r ≡ x)
-some_entry (accepted a) = (entry.Accepted a, refl)
-some_entry (refused n) = (entry.Refused n, refl)
-
-some_request : (x : Answer Request) → (r : RequestRead) × (request_answer r ≡ x)
-some_request (accepted a) = (request.Accepted a, refl)
-some_request (refused n) = (request.Refused n, refl)
-
-some_added : (x : Answer ℕ) → (r : Added) × (added_answer r ≡ x)
-some_added (accepted a) = (added.Accepted a, refl)
-some_added (refused n) = (added.Refused n, refl)
-
-some_listed : (x : Answer Hole) → (r : Listed) × (listed_answer r ≡ x)
-some_listed (accepted a) = (listed.Accepted a, refl)
-some_listed (refused n) = (listed.Refused n, refl)
-
-some_filled : (x : Answer Written) → (r : Filled) × (filled_answer r ≡ x)
-some_filled (accepted a) = (filled.Accepted a, refl)
-some_filled (refused n) = (filled.Refused n, refl)
-
-some_saved : (x : Answer ℕ) → (r : Saved) × (saved_answer r ≡ x)
-some_saved (accepted a) = (saved.Accepted a, refl)
-some_saved (refused n) = (saved.Refused n, refl)
-
-some_record : (x : Answer Recorded) → (r : RecordRead) × (record_answer r ≡ x)
-some_record (accepted a) = (recorded.Accepted a, refl)
-some_record (refused n) = (recorded.Refused n, refl)
-
-some_address : (x : Answer Address) → (r : AddressRead) × (address_answer r ≡ x)
-some_address (accepted a) = (address.Accepted a, refl)
-some_address (refused n) = (address.Refused n, refl)
-
-some_head : (x : Answer Head) → (r : HeadRead) × (head_answer r ≡ x)
-some_head (accepted a) = (head.Accepted a, refl)
-some_head (refused n) = (head.Refused n, refl)
-
-some_header : (x : Answer Header) → (r : HeaderRead) × (header_answer r ≡ x)
-some_header (accepted a) = (header.Accepted a, refl)
-some_header (refused n) = (header.Refused n, refl)
 
 -- a map and a buffer that a refusal leaves
 both_kept : {A : Type 0} (answer : Answer A) (f g : A → List ℕ) (lent left : Lent) (n : ℕ) → answer ≡ refused n
@@ -176,26 +103,21 @@ both_kept answer f g lent left n e m b =
 -- .. in adding an offer
 adds : (number l : ℕ) (lent : Lent) (o : Offer) (checks : List Check) (value : ℕ) (answer : Answer ℕ) → in_table checks ≡ true
     → Exactly checks value answer
-    → let s = reception_in number l lent in Answers checks value added_answer lent (λ r left. Adds s o answer r left.map left.buffer)
+    → let s = reception_in number l lent in Answers checks value lent (λ r left. Adds s o answer r left.map left.buffer)
 adds number l lent o checks value answer table order =
     let s = reception_in number l lent in
-    by_order checks value added_answer lent (λ r left. Adds s o answer r left.map left.buffer) answer table order (λ r left p. p.answers)
-    (λ r left p n e. both_kept answer (λ k. map_with s o) (λ k. buffer_with s o) lent left n e p.leaves_map p.leaves_buffer) (
-      (some_added answer).0,
-      (
-        record { map = (after s o answer).map; buffer = (after s o answer).buffer },
-        record { answers = (some_added answer).1; leaves_map = refl; leaves_buffer = refl },
-      ),
-    )
+    by_order checks value lent (λ r left. Adds s o answer r left.map left.buffer) answer table order (λ r left p. p.answers)
+    (λ r left p n e. both_kept answer (λ k. map_with s o) (λ k. buffer_with s o) lent left n e p.leaves_map p.leaves_buffer)
+    (record { map = (after s o answer).map; buffer = (after s o answer).buffer })
+    (λ r e. record { answers = e; leaves_map = refl; leaves_buffer = refl })
 
 -- .. and one list, which a writer that tells values leaves
-writes_and_tells : {R A : Type 0} (checks : List Check) (value : A) (means : R → Answer A) (target : List ℕ) (answer : Answer A) (made : A → List ℕ)
-    → in_table checks ≡ true → Exactly checks value answer → (r : R) × (means r ≡ answer)
-    → Answers checks value means target (λ r left. WritesAndTells target answer made (means r) left)
-writes_and_tells checks value means target answer made table order some =
-    by_order checks value means target (λ r left. WritesAndTells target answer made (means r) left) answer table order (λ r left p. p.answers)
-    (λ r left p n e. p.bytes ∙ ap (leaving made target) e)
-    (some.0, (leaving made target answer, record { answers = some.1; bytes = refl }))
+writes_and_tells : {A : Type 0} (checks : List Check) (value : A) (target : List ℕ) (answer : Answer A) (made : A → List ℕ)
+    → in_table checks ≡ true → Exactly checks value answer
+    → Answers checks value target (λ r left. WritesAndTells target answer made (answer_of r) left)
+writes_and_tells checks value target answer made table order =
+    by_order checks value target (λ r left. WritesAndTells target answer made (answer_of r) left) answer table order (λ r left p. p.answers)
+    (λ r left p n e. p.bytes ∙ ap (leaving made target) e) (leaving made target answer) (λ r e. record { answers = e; bytes = refl })
 
 -- the order of a writer that has nothing to tell
 done_in_order : {A : Type 0} (checks : List Check) (value : A) (answer : Answer A) → Exactly checks value answer
@@ -217,67 +139,57 @@ done_in_order {A} checks value answer order = record {
 
 -- .. and what it leaves
 writes : (checks : List Check) (value target : List ℕ) (made : Answer (List ℕ)) → in_table checks ≡ true → Exactly checks value made
-    → Answers checks (tt {0}) outcome target (Writes target made)
+    → Answers checks (tt {0}) target (Writes target made)
 writes checks value target made table order =
-    let some = some_outcome (telling (λ left. tt {0}) made) in
-    by_order checks (tt {0}) outcome target (Writes target made) (telling (λ left. tt {0}) made) table (done_in_order checks value made order)
+    by_order checks (tt {0}) target (Writes target made) (telling (λ left. tt {0}) made) table (done_in_order checks value made order)
     (λ r left p. p.answers) (λ r left p n e. p.bytes ∙ kept made n e)
-    (some.0, (leaving (λ left. left) target made, record { answers = some.1; bytes = refl }))
+    (leaving (λ left. left) target made) (λ r e. record { answers = e; bytes = refl })
   where
     kept : (x : Answer (List ℕ)) (n : ℕ) → telling (λ left. tt {0}) x ≡ refused n → leaving (λ left. left) target x ≡ target
     kept (accepted a) n e = absurd (not_both (tt {0}) n refl e)
     kept (refused m) n e = refl
 
 -- an operation that only reads
-reads : {R A : Type 0} (checks : List Check) (value : A) (means : R → Answer A) (answer : Answer A) → in_table checks ≡ true
-    → Exactly checks value answer → (r : R) × (means r ≡ answer) → Answers checks value means nothing (λ r left. means r ≡ answer)
-reads checks value means answer table order some =
-    by_order checks value means nothing (λ r left. means r ≡ answer) answer table order (λ r left p. p) (λ r left p n e. refl)
-    (some.0, (nothing, some.1))
+reads : {A : Type 0} (checks : List Check) (value : A) (answer : Answer A) → in_table checks ≡ true → Exactly checks value answer
+    → Answers checks value nothing (λ r left. answer_of r ≡ answer)
+reads checks value answer table order =
+    by_order checks value nothing (λ r left. answer_of r ≡ answer) answer table order (λ r left p. p) (λ r left p n e. refl) nothing (λ r e. e)
 
 -- ---- each operation
 pub demand_1 : Demand1
 unfolding head_checks piece_checks entry_checks request_checks
 demand_1 = record {
-  reads_piece = λ frame. reads _ _ _ (read_piece frame) refl (read_piece_in_order frame) (some_piece (read_piece frame));
-  reads_entry = λ frame. reads _ _ _ (read_entry frame) refl (read_entry_in_order frame) (some_entry (read_entry frame));
-  reads_request = λ frame. reads _ _ _ (read_request frame) refl (read_request_in_order frame) (some_request (read_request frame));
+  reads_piece = λ frame. reads _ _ (read_piece frame) refl (read_piece_in_order frame);
+  reads_entry = λ frame. reads _ _ (read_entry frame) refl (read_entry_in_order frame);
+  reads_request = λ frame. reads _ _ (read_request frame) refl (read_request_in_order frame);
   takes = λ number l lent frame. let s = reception_in number l lent in adds number l lent _ _ _ (taking_frame s frame) refl (take_in_order s frame);
   takes_piece = λ number l lent x. let s = reception_in number l lent in adds number l lent _ _ _ (taking s x) refl (piece.take_in_order s x);
   opens = λ l lent. let answer = opening l lent.map lent.buffer in
-      by_order _ _ outcome lent _ answer refl (open_in_order l lent.map lent.buffer) (λ r left p. p.answers)
-      (λ r left p n e. both_kept answer _ _ lent left n e p.leaves_map p.leaves_buffer) (
-        (some_outcome answer).0,
-        (
-          record {
-            map = leaving (λ u. opened_map l lent.map) lent.map answer;
-            buffer = leaving (λ u. opened_buffer l lent.buffer) lent.buffer answer;
-          },
-          record { answers = (some_outcome answer).1; leaves_map = refl; leaves_buffer = refl },
-        ),
-      );
+      by_order _ _ lent _ answer refl (open_in_order l lent.map lent.buffer) (λ r left p. p.answers)
+      (λ r left p n e. both_kept answer _ _ lent left n e p.leaves_map p.leaves_buffer)
+      (record {
+        map = leaving (λ u. opened_map l lent.map) lent.map answer;
+        buffer = leaving (λ u. opened_buffer l lent.buffer) lent.buffer answer;
+      })
+      (λ r e. record { answers = e; leaves_map = refl; leaves_buffer = refl });
   joins = λ number l lent t. let s = reception_in number l lent in adds number l lent _ _ _ (joining s t) refl (join_in_order s t);
-  lists = λ l map place. reads _ _ _ (listing l map place) refl (list_in_order l map place) (some_listed (listing l map place));
-  fills = λ w place target. writes_and_tells _ _ filled_answer target (filling w place target) _ refl (write_fill_in_order w place target) (some_filled (filling w place target));
+  lists = λ l map place. reads _ _ (listing l map place) refl (list_in_order l map place);
+  fills = λ w place target. writes_and_tells _ _ target (filling w place target) _ refl (write_fill_in_order w place target);
   starts = λ head number target. writes _ _ target (starting head number target) refl (write_start_in_order head number target);
-  saves = λ s target. writes_and_tells _ _ saved_answer target (saving s target) _ refl (save_in_order s target) (some_saved (saving s target));
-  reads_record = λ saved. reads _ _ _ (read_record saved) refl (read_record_in_order saved) (some_record (read_record saved));
+  saves = λ s target. writes_and_tells _ _ target (saving s target) _ refl (save_in_order s target);
+  reads_record = λ saved. reads _ _ (read_record saved) refl (read_record_in_order saved);
   loads = λ saved lent. let answer = loading saved lent.map lent.buffer in
-      by_order _ _ record_answer lent _ answer refl (load_in_order saved lent.map lent.buffer) (λ r left p. p.answers)
-      (λ r left p n e. both_kept answer _ _ lent left n e p.leaves_map p.leaves_buffer) (
-        (some_record answer).0,
-        (
-          record {
-            map = leaving (λ x. loaded_map saved lent.map) lent.map answer;
-            buffer = leaving (λ x. loaded_buffer saved lent.buffer) lent.buffer answer;
-          },
-          record { answers = (some_record answer).1; leaves_map = refl; leaves_buffer = refl },
-        ),
-      );
-  reads_address = λ role s at. reads _ _ _ (read_address role s at) refl (read_address_in_order role s at) (some_address (read_address role s at));
+      by_order _ _ lent _ answer refl (load_in_order saved lent.map lent.buffer) (λ r left p. p.answers)
+      (λ r left p n e. both_kept answer _ _ lent left n e p.leaves_map p.leaves_buffer)
+      (record {
+        map = leaving (λ x. loaded_map saved lent.map) lent.map answer;
+        buffer = leaving (λ x. loaded_buffer saved lent.buffer) lent.buffer answer;
+      })
+      (λ r e. record { answers = e; leaves_map = refl; leaves_buffer = refl });
+  reads_address = λ role s at. reads _ _ (read_address role s at) refl (read_address_in_order role s at);
   writes_address = λ role out at a. writes _ _ out (write_address role out at a) refl (write_address_in_order role out at a);
-  reads_head = λ protocol frame. reads _ _ _ (read_head protocol frame) refl (read_head_in_order protocol frame) (some_head (read_head protocol frame));
+  reads_head = λ protocol frame. reads _ _ (read_head protocol frame) refl (read_head_in_order protocol frame);
   writes_head = λ out destination source protocol. writes _ _ out (write_head out destination source protocol) refl
       (write_head_in_order out destination source protocol);
-  reads_header = λ s number. reads _ _ _ (read_header s number) refl (read_header_in_order s number) (some_header (read_header s number));
+  reads_header = λ s number. reads _ _ (read_header s number) refl (read_header_in_order s number);
 }

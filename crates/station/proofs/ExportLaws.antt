@@ -3,18 +3,16 @@
 use mathlib.Core.Path.{◌≡◌, refl, sym, ap, ◌∙◌}
 use mathlib.Core.List.{List}
 use Prim.Native.Nat.{ℕ}
-use Rattle.reason.specs.declared.Outcome.{Outcome}
-use Rattle.reason.specs.Answer.{Answer, accepted, refused, leaving, outcome, WritesAndTells}
+use Rattle.std.specs.Prelude.{Result}
+use Rattle.reason.specs.declared.Reason.{Reason}
+use Rattle.reason.specs.Answer.{Answer, accepted, refused, leaving, answer_of, WritesAndTells}
 use Rattle.reason.proofs.OrderLaws.{accepted_only_if}
-use Rattle.reception.specs.declared.Added.{Added}
+use Rattle.reception.specs.declared.File.{File}
 use Rattle.reception.specs.Reception.{Reception}
-use Rattle.reception.specs.Adding.{Offer, map_with, buffer_with, added_answer, Adds}
+use Rattle.reception.specs.Adding.{Offer, map_with, buffer_with, Adds}
 use Rattle.reception.specs.Opening.{opening, opened_map, opened_buffer, Opens}
-use Rattle.record.specs.declared.Recorded.{Recorded}
-use Rattle.record.specs.declared.RecordRead.{RecordRead}
-use Rattle.record.specs.declared.Saved.{Saved}
-use Rattle.record.specs.Saving.{saved_answer, Saves}
-use Rattle.record.specs.Reading.{recorded_in, record_answer}
+use Rattle.record.specs.Saving.{Saves}
+use Rattle.record.specs.Reading.{recorded_in}
 use Rattle.record.specs.Loading.{loading_checks, loading, loaded_map, loaded_buffer, Loads}
 use Rattle.station.specs.Boundary.{code, Exported}
 use Rattle.station.specs.Exports.{OpensOut, Counted, counted_with, Sized, SavesOut, LoadsOut}
@@ -42,7 +40,7 @@ module _ {A T X Y L : Type 0} (all : T → X → Y → L) (f : A → T) (g : A �
   exported_three answer told e l m b = record { returns = ap code e; leaves = three answer (l ∙ ap (leaving f t) e) m b }
 
 -- `open`
-pub opened_out : {l : ℕ} {map buffer map' buffer' : List ℕ} {r : Outcome} {k : ℕ} → Opens l map buffer r map' buffer' → k ≡ code (outcome r)
+pub opened_out : {l : ℕ} {map buffer map' buffer' : List ℕ} {r : Result Unit Reason} {k : ℕ} → Opens l map buffer r map' buffer' → k ≡ code (answer_of r)
     → OpensOut l (record { map = map; buffer = buffer }) k (record { map = map'; buffer = buffer' })
 opened_out {l} {map} {buffer} {map'} {buffer'} p e = record {
   returns = e ∙ ap code p.answers;
@@ -55,8 +53,8 @@ opened_out {l} {map} {buffer} {map'} {buffer'} p e = record {
 abbrev with_count : ℕ → List ℕ → List ℕ → Counted
 with_count n map buffer = record { new = n; map = map; buffer = buffer }
 
-pub added_out : {s : Reception} {o : Offer} {answer : Answer ℕ} {r : Added} {map buffer : List ℕ} {n n' k : ℕ} → Adds s o answer r map buffer
-    → Exported (added_answer r) (λ x. x) n k n'
+pub added_out : {s : Reception} {o : Offer} {answer : Answer ℕ} {r : Result ℕ Reason} {map buffer : List ℕ} {n n' k : ℕ} → Adds s o answer r map buffer
+    → Exported (answer_of r) (λ x. x) n k n'
     → Exported answer (counted_with s o) (with_count n s.map s.buffer) k (with_count n' map buffer)
 added_out {s} {o} {answer} {r} {map} {buffer} {n} {n'} p e = record {
   returns = e.returns ∙ ap code p.answers;
@@ -65,17 +63,17 @@ added_out {s} {o} {answer} {r} {map} {buffer} {n} {n'} p e = record {
 }
 
 -- `load`, with the number and the length that are told
-abbrev with_fields : Recorded → List ℕ → List ℕ → Reception
+abbrev with_fields : File → List ℕ → List ℕ → Reception
 with_fields t map buffer = record { number = t.number; length = t.length; map = map; buffer = buffer }
 
-module _ (saved map buffer : List ℕ) (t : Recorded) where
-  its_own : (told : Answer Recorded) → told ≡ loading saved map buffer → leaving (λ x. x) t told ≡ leaving (λ x. recorded_in saved) t told
+module _ (saved map buffer : List ℕ) (t : File) where
+  its_own : (told : Answer File) → told ≡ loading saved map buffer → leaving (λ x. x) t told ≡ leaving (λ x. recorded_in saved) t told
   unfolding loading
   its_own (accepted a) e = (accepted_only_if (loading_checks saved map buffer) (recorded_in saved) a (sym e)).1
   its_own (refused n) e = refl
 
-pub loaded_out : {saved map buffer map' buffer' : List ℕ} {r : RecordRead} {told : Answer Recorded} (t t' : Recorded)
-    → Loads saved map buffer r map' buffer' → record_answer r ≡ told → t' ≡ leaving (λ x. x) t told
+pub loaded_out : {saved map buffer map' buffer' : List ℕ} {r : Result File Reason} {told : Answer File} (t t' : File)
+    → Loads saved map buffer r map' buffer' → answer_of r ≡ told → t' ≡ leaving (λ x. x) t told
     → LoadsOut saved (with_fields t map buffer) (code told) (with_fields t' map' buffer')
 loaded_out {saved} {map} {buffer} {map'} {buffer'} {r} {told} t t' p e l =
     let answers = sym e ∙ p.answers in
@@ -93,6 +91,6 @@ written_out all t t' {lent} {left} {answer} {told = told} {made = made} p e l =
 abbrev with_size : ℕ → List ℕ → Sized
 with_size n target = record { size = n; target = target }
 
-pub saved_out : (s : Reception) (r : Saved) {target left : List ℕ} {told : Answer ℕ} {n n' : ℕ} → Saves s target r left
-    → saved_answer r ≡ told → n' ≡ leaving (λ x. x) n told → SavesOut s (with_size n target) (code told) (with_size n' left)
+pub saved_out : (s : Reception) (r : Result ℕ Reason) {target left : List ℕ} {told : Answer ℕ} {n n' : ℕ} → Saves s target r left
+    → answer_of r ≡ told → n' ≡ leaving (λ x. x) n told → SavesOut s (with_size n target) (code told) (with_size n' left)
 saved_out s r {n = n} {n' = n'} p e l = written_out with_size n n' p e l

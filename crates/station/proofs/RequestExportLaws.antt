@@ -3,13 +3,13 @@
 use mathlib.Core.Path.{◌≡◌, refl, ap, ◌∙◌}
 use mathlib.Core.List.{List}
 use Prim.Native.Nat.{ℕ}
-use Rattle.reason.specs.declared.Outcome.{Outcome}
-use Rattle.reason.specs.Answer.{Answer, accepted, refused, telling, leaving, outcome, Writes}
+use Rattle.std.specs.Prelude.{Result}
+use Rattle.reason.specs.declared.Reason.{Reason}
+use Rattle.reason.specs.Answer.{Answer, accepted, refused, telling, leaving, answer_of, Writes}
 use Rattle.ax25.specs.declared.Address.{Address}
 use Rattle.ax25.specs.declared.Head.{Head}
-use Rattle.request.specs.declared.Filled.{Filled}
 use Rattle.request.specs.declared.Written.{Written}
-use Rattle.request.specs.Writing.{filled_answer, Fills, starting}
+use Rattle.request.specs.Writing.{Fills, starting}
 use Rattle.station.specs.Boundary.{code}
 use Rattle.station.specs.AddressNumber.{address_of}
 use Rattle.station.specs.RequestExports.{head_told, WrittenRequest, FillsOut, StartsOut}
@@ -30,15 +30,15 @@ module _ (to from : Address) (destination source : ℕ) (d : to ≡ address_of d
   head_told_lem : head_told destination source ≡ head
   head_told_lem = rw (d, e)
 
-  pub filled_out : (number l : ℕ) (map : List ℕ) (place : ℕ) {target left : List ℕ} (r : Filled) {told : Answer Written} (t t' : Written)
+  pub filled_out : (number l : ℕ) (map : List ℕ) (place : ℕ) {target left : List ℕ} (r : Result Written Reason) {told : Answer Written} (t t' : Written)
       → Fills (record { head = head; number = number; length = l; map = map }) place target r left
-      → filled_answer r ≡ told → t' ≡ leaving (λ x. x) t told
+      → answer_of r ≡ told → t' ≡ leaving (λ x. x) t told
       → FillsOut (record { head = head_told destination source; number = number; length = l; map = map }) place
       (with_target t target) (code told) (with_target t' left)
   filled_out number l map place r t t' p s m = rw head_told_lem (written_out with_target t t' p s m)
 
-  pub started_out : (number : ℕ) {lent left : List ℕ} {r : Outcome} {k : ℕ} → Writes lent (starting head number lent) r left
-      → k ≡ code (outcome r) → StartsOut (head_told destination source) number lent k left
+  pub started_out : (number : ℕ) {lent left : List ℕ} {r : Result Unit Reason} {k : ℕ} → Writes lent (starting head number lent) r left
+      → k ≡ code (answer_of r) → StartsOut (head_told destination source) number lent k left
   started_out number {lent} p s =
       rw head_told_lem
       (record { returns = s ∙ ap code p.answers ∙ same_code {B = Unit} (λ l. tt) (starting head number lent); leaves = p.bytes })

@@ -1,7 +1,7 @@
 -- Worked cases of the boundary (01, "What the station does"): every value that a function tells, and what it leaves of lent numbers and
 -- bytes, most of which were 9 before.
 -- Assumes nothing.
-use Rattle.std.specs.Prelude.{◌≡◌, false, List, [], ◌∷◌, ◌++◌, ℕ, ◌+◌, ◌*◌, ◌^◌, set, drop, replicate}
+use Rattle.std.specs.Prelude.{◌≡◌, false, List, [], ◌∷◌, ◌++◌, ℕ, ◌+◌, ◌*◌, ◌^◌, set, drop, replicate, None}
 use Rattle.remainder.specs.Check.{with_check}
 use Rattle.remainder.specs.Figure.{figure32}
 use Rattle.ax25.specs.declared.Head.{Head}
@@ -9,7 +9,6 @@ use Rattle.ax25.specs.Address.{is_writable}
 use Rattle.ax25.specs.Head.{head_bytes}
 use Rattle.ax25.specs.Bits.{address_with}
 use Rattle.ax25.specs.Examples.{va3sfl, uosat5}
-use Rattle.header.specs.declared.Upload.TheVariants.{Absent}
 use Rattle.frame.specs.Making.{piece_frame}
 use Rattle.request.specs.Writing.{Wanted}
 use Rattle.station.specs.AddressNumber.{address_number, address_of}
@@ -118,8 +117,8 @@ pub record BoundaryCases : Type 0 where
       (record { size = 80; values = figure_values 0x0C94 0x60 })
   pub header_of_another : HeaderOut file_start 0xAE68 header_lent 8 header_lent
   pub header_broken : HeaderOut (set file_start 70 0x84) 0xAE67 header_lent 8 header_lent
-  pub extension_out : extension_number (record { c0 = 1; c1 = 2; c2 = 3 }) ≡ 0x030201
-  pub no_upload : (uploaded_of Absent ≡ 0) × (upload_of Absent ≡ 0)
+  pub extension_out : extension_number (1 ∷ 2 ∷ 3 ∷ []) ≡ 0x030201
+  pub no_upload : (uploaded_of None ≡ 0) × (upload_of None ≡ 0)
   pub write_request_out : FillsOut (asked uosat5_number va3sfl_number) 0 request_lent 0
       (record { count = 1; end = 20; target = asked_head ++ 0x11 ∷ 0x07 ∷ 0x00 ∷ 0x00 ∷ 0x00 ∷ 0xF4 ∷ 0x00 ∷ 0x04 ∷ 0x00 ∷ 0x00 ∷ 0x10 ∷ 0x00 ∷ 9 ∷ 9 ∷ [] })
   pub write_request_refused : FillsOut (asked (eighth 2 uosat5_number) va3sfl_number) 0 request_lent 2 request_lent

@@ -21,6 +21,7 @@ use Rattle.frame.specs.Entry.{header_part, entry_of, read_entry}
 use Rattle.frame.specs.Making.{piece_frame, MakeablePiece}
 use Rattle.frame.specs.Says.{PieceSays, EntrySays, EntryRules}
 use Rattle.holes.specs.declared.Hole.{Hole}
+use Rattle.reception.specs.declared.File.{File}
 use Rattle.reception.specs.Reception.{Reception, longest, wrong_length, short_space}
 use Rattle.holes.specs.Holes.{IsHole}
 use Rattle.holes.specs.Listing.{listing}
@@ -35,7 +36,6 @@ use Rattle.request.specs.Writing.{Wanted, holes_from, filling, fill_frame, start
 use Rattle.request.specs.Making.{MakeableRequest}
 use Rattle.request.specs.Run.{sent, sent_from, place_after, Whole, names, all_but, naming}
 use Rattle.request.specs.Says.{RequestSays}
-use Rattle.record.specs.declared.Recorded.{Recorded}
 use Rattle.record.specs.Record.{record_of, record_length}
 use Rattle.record.specs.Saving.{saving}
 use Rattle.record.specs.Reading.{number_in, length_in, map_in, buffer_in, is_record, read_record}
@@ -121,13 +121,13 @@ pub record Demand2 : Type 0 where
       → (p : ℕ) → names (holes_of (sent w place target x)) p ≡ true → (p < w.length) × (held w.map p ≡ false)
   -- ---- Records: an accepted record says its bytes at their places; what is saved is loaded, in number, length, held positions and their
   -- bytes; an accepted record is what saving gives for what it says, and so the only one of its content.
-  pub record_says : (saved : List ℕ) (x : Recorded) → read_record saved ≡ accepted x → RecordSays saved x
+  pub record_says : (saved : List ℕ) (x : File) → read_record saved ≡ accepted x → RecordSays saved x
   pub record_is_loaded : (s : Reception) (target : List ℕ) (n : ℕ) → s.number < 256 ^ 4 → saving s target ≡ accepted n
       → (take n (put_in target 0 (record_of s)) ≡ record_of s)
       × ((map buffer : List ℕ) → short_space s.length map buffer ≡ false
       → (loading (record_of s) map buffer ≡ accepted (record { number = s.number; length = s.length }))
       × GivesBack s (loaded (record_of s) map buffer))
-  pub record_is_saved : (saved map buffer : List ℕ) → AllBytes saved → (x : Recorded) → loading saved map buffer ≡ accepted x
+  pub record_is_saved : (saved map buffer : List ℕ) → AllBytes saved → (x : File) → loading saved map buffer ≡ accepted x
       → (record_of (loaded saved map buffer) ≡ saved)
       × ((target : List ℕ) → record_length (length_in saved) ≤ length target → saving (loaded saved map buffer) target ≡ accepted (length saved))
   pub one_record : (r q : List ℕ) → AllBytes r → AllBytes q → is_record r ≡ true → is_record q ≡ true → number_in r ≡ number_in q

@@ -1,14 +1,14 @@
 -- The customer's third demand, in its words, over frames: what stations that collect one file hold, what joining gives, and
 -- what the listed holes are. It speaks of the definitions that the promises of `open`, `take`, `join`, `list`, `save` and `load` cite.
 -- Assumes nothing.
-use Rattle.std.specs.Prelude.{◌≡◌, true, false, not, ◌&&◌, ◌||◌, List, ◌++◌, ℕ, ◌^◌, ◌≤◌, ◌<◌, length, take, drop}
-use Rattle.reason.specs.Answer.{accepted, refused}
-use Rattle.reason.specs.declared.Outcome.{Outcome}
+use Rattle.std.specs.Prelude.{◌≡◌, true, false, not, ◌&&◌, ◌||◌, List, ◌++◌, ℕ, ◌^◌, ◌≤◌, ◌<◌, length, take, drop, Result}
+use Rattle.reason.specs.declared.Reason.{Reason}
+use Rattle.reason.specs.Answer.{accepted, refused, answer_of}
 use Rattle.octets.specs.Lists.{OneOf}
 use Rattle.octets.specs.Numbers.{AllBytes}
 use Rattle.positions.specs.Spans.{count}
 use Rattle.positions.specs.Map.{held, map_size}
-use Rattle.reception.specs.declared.Added.{Added}
+use Rattle.reception.specs.declared.File.{File}
 use Rattle.holes.specs.declared.Hole.{Hole}
 use Rattle.reception.specs.Reception.{Reception, short_space}
 use Rattle.reception.specs.Opening.{opening, opened, Opens}
@@ -18,11 +18,8 @@ use Rattle.holes.specs.Holes.{IsHole}
 use Rattle.holes.specs.Listing.{listing}
 use Rattle.holes.specs.EveryHole.{listed_from, AllHoles, InHole}
 use Rattle.reception.specs.Contents.{HoldsOf, itself, beyond}
-use Rattle.record.specs.declared.Saved.{Saved}
-use Rattle.record.specs.declared.RecordRead.{RecordRead}
 use Rattle.record.specs.Record.{record_of, record_length}
-use Rattle.record.specs.Saving.{saved_answer, Saves}
-use Rattle.record.specs.Reading.{record_answer}
+use Rattle.record.specs.Saving.{Saves}
 use Rattle.record.specs.Loading.{loaded, Loads}
 use Rattle.station.specs.Lent.{Lent, reception_in}
 use Rattle.taking.specs.Taking.{piece_data_in, taking_frame, taken_frame, TakesFrame}
@@ -37,19 +34,19 @@ pub record Demand3 (number l : ℕ) (file : List ℕ) : Type 0 where
   -- `join`, `save` and `load` leave just that, by their promises; and calls of `open` and of `take` for each frame, one after the other,
   -- leave a station's `reception_of`. A reception that is made is saved into any target with room, and its record is loaded into any map and
   -- buffer that are long enough.
-  pub by_open : (lent left : Lent) (r : Outcome) → opening l lent.map lent.buffer ≡ accepted tt
+  pub by_open : (lent left : Lent) (r : Result Unit Reason) → opening l lent.map lent.buffer ≡ accepted tt
       → Opens l lent.map lent.buffer r left.map left.buffer → reception_in number l left ≡ opened number l lent.map lent.buffer
-  pub by_take : (s : Reception) (frame : List ℕ) (r : Added) (left : Lent) → TakesFrame s frame r left.map left.buffer
+  pub by_take : (s : Reception) (frame : List ℕ) (r : Result ℕ Reason) (left : Lent) → TakesFrame s frame r left.map left.buffer
       → reception_in s.number s.length left ≡ taken_frame s frame
-  pub by_join : (s t : Reception) (r : Added) (left : Lent) → Joins s t r left.map left.buffer
+  pub by_join : (s t : Reception) (r : Result ℕ Reason) (left : Lent) → Joins s t r left.map left.buffer
       → reception_in s.number s.length left ≡ joined s t
-  pub by_save : (s : Reception) → Made number l file s → (target left : List ℕ) (r : Saved) → record_length l ≤ length target → Saves s target r left
-      → (saved_answer r ≡ accepted (record_length l)) × (take (record_length l) left ≡ record_of s)
-  pub by_load : (s : Reception) → Made number l file s → number < 256 ^ 4 → (lent left : Lent) (r : RecordRead) → AllBytes lent.map
+  pub by_save : (s : Reception) → Made number l file s → (target left : List ℕ) (r : Result ℕ Reason) → record_length l ≤ length target → Saves s target r left
+      → (answer_of r ≡ accepted (record_length l)) × (take (record_length l) left ≡ record_of s)
+  pub by_load : (s : Reception) → Made number l file s → number < 256 ^ 4 → (lent left : Lent) (r : Result File Reason) → AllBytes lent.map
       → short_space l lent.map lent.buffer ≡ false → Loads (record_of s) lent.map lent.buffer r left.map left.buffer
-      → (record_answer r ≡ accepted (record { number = number; length = l }))
+      → (answer_of r ≡ accepted (record { number = number; length = l }))
       × (reception_in number l left ≡ loaded (record_of s) lent.map lent.buffer)
-  pub by_calls : (a : Station number l file) (r : Outcome) (opens last : Lent) → Opens l a.map a.buffer r opens.map opens.buffer
+  pub by_calls : (a : Station number l file) (r : Result Unit Reason) (opens last : Lent) → Opens l a.map a.buffer r opens.map opens.buffer
       → Calls number l opens a.frames last → reception_in number l last ≡ reception_of a
   -- "A position is then held exactly if an accepted piece covered it, held bytes are the file's, the others are zero." So are the
   -- spare bits of the map.

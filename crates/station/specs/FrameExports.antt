@@ -1,16 +1,12 @@
 -- What the boundary tells of frames and of file headers (01, "What the station does"): all values as numbers, those of a frame in the
 -- order of their bytes and those of a header in the order of its items' ids.
 -- Assumes nothing.
-use Rattle.std.specs.Prelude.{List, [], ◌∷◌, ℕ, ◌+◌, length}
+use Rattle.std.specs.Prelude.{List, [], ◌∷◌, ℕ, ◌+◌, length, Option, Some, None}
 use Rattle.octets.specs.Numbers.{number_at}
 use Rattle.ax25.specs.Head.{head_length}
 use Rattle.ax25.specs.Information.{information_of}
-use Rattle.header.specs.declared.Name.{Name}
-use Rattle.header.specs.declared.Extension.{Extension}
-use Rattle.header.specs.declared.Upload.{Upload}
-use Rattle.header.specs.declared.Upload.TheVariants.{Time, Absent}
 use Rattle.header.specs.declared.Header.{Header}
-use Rattle.header.specs.Header.{name_bytes, extension_bytes, read_header}
+use Rattle.header.specs.Header.{read_header}
 use Rattle.frame.specs.declared.Piece.{Piece}
 use Rattle.frame.specs.declared.Entry.{Entry}
 use Rattle.frame.specs.Piece.{before_data, read_piece, data_part}
@@ -49,22 +45,22 @@ entry_numbers frame e =
     []
 
 -- the eight bytes of a name as a number, least significant byte first
-abbrev pub name_number : Name → ℕ
-name_number n = number_at 8 (name_bytes n) 0
+abbrev pub name_number : List ℕ → ℕ
+name_number n = number_at 8 n 0
 
 -- the three bytes of an extension likewise
-abbrev pub extension_number : Extension → ℕ
-extension_number e = number_at 3 (extension_bytes e) 0
+abbrev pub extension_number : List ℕ → ℕ
+extension_number e = number_at 3 e 0
 
 -- whether item 12 is present: 1 where it is, and 0 where not
-abbrev pub uploaded_of : Upload → ℕ
-uploaded_of (Time t) = 1
-uploaded_of Absent = 0
+abbrev pub uploaded_of : Option ℕ → ℕ
+uploaded_of (Some t) = 1
+uploaded_of None = 0
 
 -- the time of item 12, and 0 where it is not present
-abbrev pub upload_of : Upload → ℕ
-upload_of (Time t) = t
-upload_of Absent = 0
+abbrev pub upload_of : Option ℕ → ℕ
+upload_of (Some t) = t
+upload_of None = 0
 
 -- the values of a file header as numbers, but for its file's number and how many bytes it has itself, which are told beside them
 abbrev pub header_numbers : Header → List ℕ

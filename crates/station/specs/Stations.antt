@@ -1,6 +1,6 @@
 -- Stations that collect one file from frames, and every reception of it that is made (demand 3).
 -- Assumes nothing.
-use Rattle.std.specs.Prelude.{◌≡◌, true, false, List, [], ◌∷◌, ◌++◌, ℕ, ◌^◌, ◌<◌}
+use Rattle.std.specs.Prelude.{◌≡◌, false, List, [], ◌∷◌, ◌++◌, ℕ, ◌^◌, ◌<◌}
 use Rattle.reason.specs.Answer.{accepted}
 use Rattle.octets.specs.Numbers.{AllBytes}
 use Rattle.reception.specs.Reception.{Reception, short_space}

@@ -9,22 +9,18 @@ use ax25::Address;
 pub(crate) fn address_number(a: Address) -> u64
     ensures { result ≡ address_number a }
 {
-    let high = a.c4 as u64 + 256 * (a.c5 as u64 + 256 * (a.number as u64 + 256 * (a.bit7 as u64)));
-    a.c0 as u64 + 256 * (a.c1 as u64 + 256 * (a.c2 as u64 + 256 * (a.c3 as u64 + 256 * high)))
+    let [c0, c1, c2, c3, c4, c5] = a.characters;
+    octets::number::<8>(&[c0, c1, c2, c3, c4, c5, a.number, a.bit7], 0)
 }
 
 // The address that a number tells, which can be written or not.
 pub(crate) fn address_of(n: u64) -> Address
     ensures { result ≡ address_of n }
 {
+    let [c0, c1, c2, c3, c4, c5, number, bit7] = octets::bytes::<8>(n);
     Address {
-        c0: (n % 256) as u8,
-        c1: (n / 0x100 % 256) as u8,
-        c2: (n / 0x10000 % 256) as u8,
-        c3: (n / 0x1000000 % 256) as u8,
-        c4: (n / 0x100000000 % 256) as u8,
-        c5: (n / 0x10000000000 % 256) as u8,
-        number: (n / 0x1000000000000 % 256) as u8,
-        bit7: (n / 0x100000000000000) as u8,
+        characters: [c0, c1, c2, c3, c4, c5],
+        number,
+        bit7,
     }
 }

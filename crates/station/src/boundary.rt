@@ -3,25 +3,22 @@
 // Each function returns 0, or the number of the reason, and tells its values through numbers that it was
 // lent; a refusal leaves these, and every lent byte, as they were. The last three refuse nothing, and return
 // what their operations answer. The contracts cite `specs/Exports.antt`.
+// Kept: a number is returned and the parameters are flat, since C calls each of these through `station_c`.
 ghost use Rattle.std.specs.Prelude.{◌≡◌};
-ghost use Rattle.reason.specs.Answer.{outcome};
+ghost use Rattle.reason.specs.Answer.{answer_of};
 ghost use Rattle.remainder.specs.Remainder.{remainder_of};
-ghost use Rattle.reception.specs.Adding.{added_answer};
 ghost use Rattle.reception.specs.Held.{held_of, held_count};
-ghost use Rattle.station.specs.Boundary.{code, Exported};
+ghost use Rattle.station.specs.Boundary.{code};
 ghost use Rattle.station.specs.Exports.{OpensOut, TakesOut, JoinsOut, ListsOut, SavesOut, LoadsOut};
 
-use holes::Listed;
-use reason::Outcome;
-use reception::Added;
-use record::{RecordRead, Saved};
+use reason::Reason;
+use reception::{File, Reception};
 
 // Opens a reception, as `reception::open`: 7, 12.
 pub fn station_open(length: u32, map: &mut [u8], buffer: &mut [u8]) -> u8
     ensures { OpensOut length (record { map = map.entry.now; buffer = buffer.old }) result (record { map = map.exit.now; buffer = buffer.new }) }
 {
-    let answered = reception::open(length, map, buffer);
-    code_of(answered)
+    code_of(reception::open(length, map, buffer))
 }
 
 // Takes a frame in, as `take`, and tells how many positions are newly held: the frame's reasons, then 7,
@@ -37,8 +34,11 @@ pub fn station_take(
     ensures { TakesOut number length frame.now (record { new = new.entry.now; map = map.old; buffer = buffer.old })
         result (record { new = new.exit.now; map = map.new; buffer = buffer.new }) }
 {
-    let added = taking::take(number, length, map, buffer, frame);
-    tell_new(added, new)
+    let added = taking::take(File { number, length }, map, buffer, frame);
+    if let Ok(count) = added {
+        *new = count;
+    }
+    code_of(added)
 }
 
 // Joins a second reception into a first, as `reception::join`, and tells how many positions are newly held:
@@ -59,17 +59,19 @@ pub fn station_join(
         (record { new = new.entry.now; map = map.old; buffer = buffer.old })
         result (record { new = new.exit.now; map = map.new; buffer = buffer.new }) }
 {
-    let added = reception::join(
-        number,
-        length,
-        map,
-        buffer,
-        second_number,
-        second_length,
-        second_map,
-        second_buffer,
-    );
-    tell_new(added, new)
+    let second = Reception {
+        file: File {
+            number: second_number,
+            length: second_length,
+        },
+        map: second_map,
+        buffer: second_buffer,
+    };
+    let added = reception::join(File { number, length }, map, buffer, second);
+    if let Ok(count) = added {
+        *new = count;
+    }
+    code_of(added)
 }
 
 // Lists a hole, as `holes::list`, and tells its start and its length: 7, 12, 15.
@@ -83,14 +85,12 @@ pub fn station_list(
     ensures { ListsOut length map.now place (record { start = start.entry.now; length = hole_length.old })
         result (record { start = start.exit.now; length = hole_length.new }) }
 {
-    match holes::list(length, map, place) {
-        Listed::Accepted(hole) => {
-            *start = hole.start;
-            *hole_length = hole.length;
-            0
-        }
-        Listed::Refused(n) => n,
+    let listed = holes::list(length, map, place);
+    if let Ok(hole) = listed {
+        *start = hole.start;
+        *hole_length = hole.length;
     }
+    code_of(listed)
 }
 
 // Saves a reception as a record, as `record::save`, and tells how many bytes it has: 7, 12.
@@ -105,13 +105,16 @@ pub fn station_save(
     ensures { SavesOut (record { number = number; length = length; map = map.now; buffer = buffer.now })
         (record { size = size.entry.now; target = target.old }) result (record { size = size.exit.now; target = target.new }) }
 {
-    match record::save(number, length, map, buffer, target) {
-        Saved::Accepted(n) => {
-            *size = n;
-            0
-        }
-        Saved::Refused(n) => n,
+    let reception = Reception {
+        file: File { number, length },
+        map,
+        buffer,
+    };
+    let saved = record::save(reception, target);
+    if let Ok(n) = saved {
+        *size = n;
     }
+    code_of(saved)
 }
 
 // Loads a record, as `record::load`, and tells the number and the length of its file: 13, 12.
@@ -126,14 +129,12 @@ pub fn station_load(
         (record { number = number.entry.now; length = length.old; map = map.old; buffer = buffer.old })
         result (record { number = number.exit.now; length = length.new; map = map.new; buffer = buffer.new }) }
 {
-    match record::load(saved, map, buffer) {
-        RecordRead::Accepted(said) => {
-            *number = said.number;
-            *length = said.length;
-            0
-        }
-        RecordRead::Refused(n) => n,
+    let loaded = record::load(saved, map, buffer);
+    if let Ok(file) = loaded {
+        *number = file.number;
+        *length = file.length;
     }
+    code_of(loaded)
 }
 
 // Whether a position of a file is held, as `reception::is_held`.
@@ -157,25 +158,12 @@ pub fn station_remainder(bytes: &[u8]) -> u16
     remainder::remainder(bytes)
 }
 
-// What is returned for an answer that has no values to tell.
-pub(crate) fn code_of(answered: Outcome) -> u8
-    ensures { result ≡ code (outcome answered) }
+// What is returned for an answer: 0 where it has values, which are told beside it, or the number of its reason.
+pub(crate) fn code_of<T: Copy>(answered: Result<T, Reason>) -> u8
+    ensures { result ≡ code (answer_of answered) }
 {
     match answered {
-        Outcome::Accepted => 0,
-        Outcome::Refused(n) => n,
-    }
-}
-
-// Tells how many positions are newly held, and returns as every function here does.
-fn tell_new(added: Added, new: &mut u32) -> u8
-    ensures { Exported (added_answer added) (λ n. n) new.old result new.new }
-{
-    match added {
-        Added::Accepted(n) => {
-            *new = n;
-            0
-        }
-        Added::Refused(n) => n,
+        Ok(_) => 0,
+        Err(reason) => u8::from(reason),
     }
 }

@@ -5,11 +5,11 @@
 // its items' ids. An address is one number (`addresses.rt`), and so are a name and an extension, of their bytes, least
 // significant byte first. The contracts cite `specs/FrameExports.antt`.
 ghost use Rattle.std.specs.Prelude.{◌≡◌};
-ghost use Rattle.station.specs.FrameExports.{PieceOut, EntryOut, HeaderOut, header_numbers, name_number, extension_number, uploaded_of, upload_of};
+ghost use Rattle.station.specs.FrameExports.{PieceOut, EntryOut, HeaderOut, header_numbers};
 
-use super::addresses;
-use frame::{DATA_AT, EntryRead, HEADER_AT, PieceRead};
-use header::{Extension, Header, HeaderRead, Name, Upload};
+use super::{addresses, boundary};
+use frame::{DATA_AT, HEADER_AT};
+use header::Header;
 
 // Reads a frame as a file piece, as `frame::read_piece`, and tells destination, source, number, type, offset, and where
 // the piece's bytes stand in the frame, the place of the first and how many: 1, 2, 3, 4, 7, 1, 6, 5, 7.
@@ -17,21 +17,18 @@ pub fn station_piece(frame: &[u8], told: &mut [u64; 7]) -> u8
     ensures { PieceOut frame.now told.old result told.new }
 {
     let read = frame::read_piece(frame);
-    match read {
-        PieceRead::Accepted(piece) => {
-            *told = [
-                addresses::address_number(piece.head.destination),
-                addresses::address_number(piece.head.source),
-                piece.number as u64,
-                piece.kind as u64,
-                piece.offset as u64,
-                DATA_AT as u64,
-                frame::piece_of(frame, read).len() as u64,
-            ];
-            0
-        }
-        PieceRead::Refused(n) => n,
+    if let Ok(piece) = read {
+        *told = [
+            addresses::address_number(piece.head.destination),
+            addresses::address_number(piece.head.source),
+            u64::from(piece.number),
+            u64::from(piece.kind),
+            u64::from(piece.offset),
+            DATA_AT as u64,
+            frame::piece_of(frame, read).len() as u64,
+        ];
     }
+    boundary::code_of(read)
 }
 
 // Reads a frame as a directory entry, as `frame::read_entry`, and tells destination, source, flags, number, offset, time
@@ -42,25 +39,21 @@ pub fn station_entry(frame: &[u8], told: &mut [u64; 9], values: &mut [u64; 12]) 
         result (record { told = told.exit.now; values = values.new }) }
 {
     let read = frame::read_entry(frame);
-    match read {
-        EntryRead::Accepted(entry) => {
-            let header = entry.header;
-            *told = [
-                addresses::address_number(entry.head.destination),
-                addresses::address_number(entry.head.source),
-                entry.flags as u64,
-                entry.number as u64,
-                entry.offset as u64,
-                entry.old as u64,
-                entry.new as u64,
-                HEADER_AT as u64,
-                frame::header_of(frame, read).len() as u64,
-            ];
-            tell_values(header, values);
-            0
-        }
-        EntryRead::Refused(n) => n,
+    if let Ok(entry) = read {
+        *told = [
+            addresses::address_number(entry.head.destination),
+            addresses::address_number(entry.head.source),
+            u64::from(entry.flags),
+            u64::from(entry.number),
+            u64::from(entry.offset),
+            u64::from(entry.old),
+            u64::from(entry.new),
+            HEADER_AT as u64,
+            frame::header_of(frame, read).len() as u64,
+        ];
+        *values = values_of(entry.header);
     }
+    boundary::code_of(read)
 }
 
 // Reads the file header that the bytes start with, of the file with the number, as `header::read_header`, and tells
@@ -70,70 +63,32 @@ pub fn station_header(bytes: &[u8], number: u32, size: &mut usize, values: &mut 
     ensures { HeaderOut bytes.now number (record { size = size.entry.now; values = values.old })
         result (record { size = size.exit.now; values = values.new }) }
 {
-    match header::read_header(bytes, number) {
-        HeaderRead::Accepted(header) => {
-            *size = header.size;
-            tell_values(header, values);
-            0
-        }
-        HeaderRead::Refused(n) => n,
+    let read = header::read_header(bytes, number);
+    if let Ok(header) = read {
+        *size = header.size;
+        *values = values_of(header);
     }
+    boundary::code_of(read)
 }
 
-// Tells the values of a file header: items 02 to 0B, the name, the extension, the whole file's length, when it was made and
+// The values of a file header: items 02 to 0B, the name, the extension, the whole file's length, when it was made and
 // changed, upsets, type, the body's sum, the header's and the body's offset; then 1 where item 12 is present and its time,
 // and 0 for both where not.
-fn tell_values(header: Header, values: &mut [u64; 12])
-    ensures { values.new ≡ header_numbers header }
+fn values_of(header: Header) -> [u64; 12]
+    ensures { result ≡ header_numbers header }
 {
-    let item = header.upload;
-    *values = [
-        name_number(header.name),
-        extension_number(header.extension),
-        header.length as u64,
-        header.created as u64,
-        header.modified as u64,
-        header.upset as u64,
-        header.kind as u64,
-        header.bodysum as u64,
-        header.headersum as u64,
-        header.body as u64,
-        uploaded_of(item),
-        upload_of(item),
-    ];
-}
-
-// A name as a number.
-fn name_number(n: Name) -> u64
-    ensures { result ≡ name_number n }
-{
-    let high = n.c4 as u64 + 256 * (n.c5 as u64 + 256 * (n.c6 as u64 + 256 * (n.c7 as u64)));
-    n.c0 as u64 + 256 * (n.c1 as u64 + 256 * (n.c2 as u64 + 256 * (n.c3 as u64 + 256 * high)))
-}
-
-// An extension as a number.
-fn extension_number(e: Extension) -> u64
-    ensures { result ≡ extension_number e }
-{
-    e.c0 as u64 + 256 * (e.c1 as u64 + 256 * (e.c2 as u64))
-}
-
-// 1 where item 12 is present, and 0 where not.
-fn uploaded_of(item: Upload) -> u64
-    ensures { result ≡ uploaded_of item }
-{
-    match item {
-        Upload::Time(_) => 1,
-        Upload::Absent => 0,
-    }
-}
-
-// The time of item 12, and 0 where it is not present.
-fn upload_of(item: Upload) -> u64
-    ensures { result ≡ upload_of item }
-{
-    match item {
-        Upload::Time(t) => t as u64,
-        Upload::Absent => 0,
-    }
+    [
+        octets::number::<8>(&header.name, 0),
+        octets::number::<3>(&header.extension, 0),
+        u64::from(header.length),
+        u64::from(header.created),
+        u64::from(header.modified),
+        u64::from(header.upset),
+        u64::from(header.kind),
+        u64::from(header.bodysum),
+        u64::from(header.headersum),
+        u64::from(header.body),
+        u64::from(header.upload.is_some()),
+        u64::from(header.upload.unwrap_or(0)),
+    ]
 }

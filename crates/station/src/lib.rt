@@ -31,25 +31,26 @@
 //   read_record    what a record says, nothing copied             13                         record, specs/Reading
 //   map_of         its map, a part of the record                  –                          record, specs/Reading
 //
-// An operation answers its values, or one numbered reason in the order above and then no lent byte has
-// changed; none asks anything of its caller. `boundary.rt`, `frame_boundary.rt` and `request_boundary.rt` have
-// the same operations for a host program, on numbers and byte slices alone (specs/Exports, specs/FrameExports,
-// specs/RequestExports).
+// An operation answers its values, or one numbered reason (`Reason`) in the order above and then no lent byte
+// has changed; none asks anything of its caller. A `File` is its number and its length, and a `Reception` one that
+// is lent to be read. `boundary.rt`, `frame_boundary.rt` and `request_boundary.rt` have the same operations for a
+// host program, on numbers and byte slices alone (specs/Exports, specs/FrameExports, specs/RequestExports).
 //
 // The operations that these are made of have promises of their own:
 //
 //   ax25       writable, read_address, write_address (specs/Address), read_head, write_head (specs/Head)
 //   header     decide, Cursor::first, Cursor::step (specs/Items)
-//   reception  take, of a piece that was read (specs/Taking), wrong_length, short, short_map (specs/Reception),
-//              map_size (positions, specs/Map)
+//   request    flags to and from what they ask for, `Asks` (specs/Request, specs/Reading)
+//   reception  take, of the `Data` of a piece that was read (specs/Taking), wrong_length, short, short_map
+//              (specs/Reception), map_size (positions, specs/Map)
 //   runs       piece_agrees, put_piece, both_agree, add_held (specs/Offers)
-//   positions  is_set, lowest, count_set, is_held, mark (specs/Map), count_held, first_held, first_unheld
-//              (specs/Spans)
+//   positions  is_set, lowest, count_set, is_held, mark (specs/Map), first_on (specs/Map),
+//              count_held (specs/Spans)
 //   remainder  remainder (specs/Remainder), check_right (specs/Check)
-//   octets     byte, number2, number3, number4, bytes2, bytes3, bytes4 (specs/Numbers), put (specs/Runs)
+//   octets     byte, number, bytes (specs/Numbers), array (specs/Values), put (specs/Runs)
 //
-// `reason` has answers, and reasons in their order; above all stands `report`, the hole program's text (specs/
-// Reporting).
+// `reason` has the reasons and their numbers, answers, and reasons in their order; above all stands `report`, the
+// hole program's text (specs/Reporting).
 //
 // What all of it adds up to is the customer's three demands: they stand in `specs/Demand1.antt`,
 // `specs/Demand2.antt` and `specs/Demand3.antt`, and are proved in `proofs/` under the same names; the
@@ -65,7 +66,8 @@ pub mod request_boundary;
 pub use frame::{header_bytes, header_of, piece_bytes, piece_of, read_entry, read_piece};
 pub use header::{item_bytes, read_header};
 pub use holes::list;
-pub use reception::{Added, count_held, is_held, join, open};
+pub use reason::Reason;
+pub use reception::{Data, File, Reception, count_held, is_held, join, open};
 pub use record::{load, map_of, read_record, save};
 pub use request::{hole_at, hole_of, read_request, write_fill, write_start};
 pub use taking::take;

@@ -3,11 +3,11 @@
 // A function returns and tells as those of `boundary.rt` and `frame_boundary.rt` do; an address is one number
 // (`addresses.rt`). The contracts cite `specs/RequestExports.antt`.
 ghost use Rattle.std.specs.Prelude.{◌≡◌};
-ghost use Rattle.request.specs.Request.{flags_of};
 ghost use Rattle.station.specs.RequestExports.{head_told, FillsOut, StartsOut, RequestOut, HoleOut};
 
 use super::{addresses, boundary};
-use request::{Asks, Filled, RequestRead};
+use ax25::Head;
+use reception::File;
 
 // Writes a request for holes, as `request::write_fill`, and tells how many it lists and the end of the last: 2,
 // 7, 12 (map), 15, 12 (target). The frame is the first 23 + 5 × count bytes of the target.
@@ -26,16 +26,13 @@ pub fn station_write_fill(
         (record { count = count.entry.now; end = end.old; target = target.old })
         result (record { count = count.exit.now; end = end.new; target = target.new }) }
 {
-    let to = addresses::address_of(destination);
-    let from = addresses::address_of(source);
-    match request::write_fill(to, from, number, length, map, place, target) {
-        Filled::Accepted(written) => {
-            *count = written.count;
-            *end = written.end;
-            0
-        }
-        Filled::Refused(n) => n,
+    let head = head_told(destination, source);
+    let filled = request::write_fill(head, File { number, length }, map, place, target);
+    if let Ok(written) = filled {
+        *count = written.count;
+        *end = written.end;
     }
+    boundary::code_of(filled)
 }
 
 // Writes a request for the start of a file, as `request::write_start`: 2, 12. The frame is the first 23 bytes of
@@ -43,10 +40,8 @@ pub fn station_write_fill(
 pub fn station_write_start(destination: u64, source: u64, number: u32, target: &mut [u8]) -> u8
     ensures { StartsOut (head_told destination source) number target.old result target.new }
 {
-    let to = addresses::address_of(destination);
-    let from = addresses::address_of(source);
-    let answered = request::write_start(to, from, number, target);
-    boundary::code_of(answered)
+    let head = head_told(destination, source);
+    boundary::code_of(request::write_start(head, number, target))
 }
 
 // Reads a frame as a request, as `request::read_request`, and tells destination, source, flags, number, and how many holes
@@ -54,20 +49,17 @@ pub fn station_write_start(destination: u64, source: u64, number: u32, target: &
 pub fn station_read_request(frame: &[u8], told: &mut [u64; 5]) -> u8
     ensures { RequestOut frame.now told.old result told.new }
 {
-    match request::read_request(frame) {
-        RequestRead::Accepted(read) => {
-            let asks = read.asks;
-            *told = [
-                addresses::address_number(read.head.destination),
-                addresses::address_number(read.head.source),
-                flags_of(asks) as u64,
-                read.number as u64,
-                read.count as u64,
-            ];
-            0
-        }
-        RequestRead::Refused(n) => n,
+    let read = request::read_request(frame);
+    if let Ok(request) = read {
+        *told = [
+            addresses::address_number(request.head.destination),
+            addresses::address_number(request.head.source),
+            u64::from(u8::from(request.asks)),
+            u64::from(request.number),
+            u64::from(request.count),
+        ];
     }
+    boundary::code_of(read)
 }
 
 // Tells start and length of the hole with an index, counted from 0, in a request frame; both are 0 beyond the
@@ -77,23 +69,20 @@ pub fn station_hole(frame: &[u8], index: u32, start: &mut u32, hole_length: &mut
         result (record { start = start.exit.now; length = hole_length.new }) }
 {
     let read = request::read_request(frame);
-    match read {
-        RequestRead::Accepted(_) => {
-            let hole = request::hole_of(frame, read, index);
-            *start = hole.start;
-            *hole_length = hole.length;
-            0
-        }
-        RequestRead::Refused(n) => n,
+    if read.is_ok() {
+        let hole = request::hole_of(frame, read, index);
+        *start = hole.start;
+        *hole_length = hole.length;
     }
+    boundary::code_of(read)
 }
 
-// The flags of what a request asks for.
-fn flags_of(asks: Asks) -> u8
-    ensures { result ≡ flags_of asks }
+// The head that two numbers tell.
+fn head_told(destination: u64, source: u64) -> Head
+    ensures { result ≡ head_told destination source }
 {
-    match asks {
-        Asks::Start => 0x10,
-        Asks::Holes => 0x11,
+    Head {
+        destination: addresses::address_of(destination),
+        source: addresses::address_of(source),
     }
 }

@@ -3,13 +3,14 @@
 use mathlib.Core.Path.{◌≡◌, refl, ap, ap₂}
 use mathlib.Core.List.{List}
 use Prim.Native.Nat.{ℕ}
+use Rattle.std.specs.Prelude.{Result, Err}
+use Rattle.reason.specs.declared.Reason.{Reason}
+use Rattle.reason.specs.Reasons.{number_of}
 use Rattle.reason.specs.Answer.{accepted, refused}
 use Rattle.reason.proofs.OrderLaws.{refused_then, accepted_then, accepted_only_if}
 use Rattle.frame.specs.declared.Piece as framed
 use Rattle.ax25.specs.Information.{information_of}
 use Rattle.frame.specs.Piece.{piece_order, piece_of, read_piece, data_part}
-use Rattle.reception.specs.declared.Added.{Added}
-use Rattle.reception.specs.declared.Added.TheVariants.{Refused}
 use Rattle.reception.specs.Reception.{Reception, PieceData}
 use Rattle.reception.specs.Adding.{of_piece, new_in, after}
 use Rattle.reception.specs.Taking.{taking_checks, taking, taken, Takes}
@@ -40,17 +41,17 @@ module _ (s : Reception) (frame : List ℕ) where
   frame_taken p e = ap (after s (of_piece (piece_data_in frame))) (frame_accepted p e)
 
   -- the promise of `take`, by what reading the frame answered
-  pub takes_no_piece : (n : ℕ) → read_piece frame ≡ refused n → TakesFrame s frame (Refused n) s.map s.buffer
-  takes_no_piece n e = adds_refused s (of_piece (piece_data_in frame)) (taking_frame s frame) s.map s.buffer n (frame_refused n e) refl refl
+  pub takes_no_piece : (reason : Reason) → read_piece frame ≡ refused (number_of reason) → TakesFrame s frame (Err reason) s.map s.buffer
+  takes_no_piece reason e = adds_refused s (of_piece (piece_data_in frame)) (taking_frame s frame) s.map s.buffer reason (frame_refused (number_of reason) e) refl refl
 
   piece_is : (p : framed.Piece) (bytes : List ℕ) → p ≡ piece_of frame → bytes ≡ data_part (information_of frame)
       → record { number = p.number; offset = p.offset; bytes = bytes } ≡ piece_data_in frame
   piece_is p bytes e b = ap₂ (λ (q : framed.Piece) (d : List ℕ). record { number = q.number; offset = q.offset; bytes = d }) e b
 
-  another : (x y : PieceData) (r : Added) (map buffer : List ℕ) → x ≡ y → Takes s x r map buffer → Takes s y r map buffer
+  another : (x y : PieceData) (r : Result ℕ Reason) (map buffer : List ℕ) → x ≡ y → Takes s x r map buffer → Takes s y r map buffer
   another x y r map buffer e t = rw e at t
 
-  pub takes_piece : (p : framed.Piece) (bytes : List ℕ) (r : Added) (map buffer : List ℕ) → read_piece frame ≡ accepted p → bytes ≡ data_part (information_of frame)
+  pub takes_piece : (p : framed.Piece) (bytes : List ℕ) (r : Result ℕ Reason) (map buffer : List ℕ) → read_piece frame ≡ accepted p → bytes ≡ data_part (information_of frame)
       → Takes s (record { number = p.number; offset = p.offset; bytes = bytes }) r map buffer
       → TakesFrame s frame r map buffer
   takes_piece p bytes r map buffer e b t =

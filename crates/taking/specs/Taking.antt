@@ -1,11 +1,11 @@
 -- Taking a frame in (01, "Reception" and "Numbered reasons"): the piece that it is, into the reception of a file.
 -- Assumes nothing.
-use Rattle.std.specs.Prelude.{List, ◌++◌, ℕ}
+use Rattle.std.specs.Prelude.{List, ◌++◌, ℕ, Result}
+use Rattle.reason.specs.declared.Reason.{Reason}
 use Rattle.reason.specs.Answer.{Answer}
 use Rattle.reason.specs.Order.{Check, first_of}
 use Rattle.ax25.specs.Information.{information_of}
 use Rattle.frame.specs.Piece.{piece_order, piece_of, data_part}
-use Rattle.reception.specs.declared.Added.{Added}
 use Rattle.reception.specs.Reception.{Reception, PieceData}
 use Rattle.reception.specs.Adding.{of_piece, after, Adds}
 use Rattle.reception.specs.Taking.{taking_checks, taken_new}
@@ -27,5 +27,5 @@ abbrev pub taken_frame : Reception → List ℕ → Reception
 taken_frame s frame = after s (of_piece (piece_data_in frame)) (taking_frame s frame)
 
 -- The promise of `take`: what it answers, and what it leaves in the lent map and buffer.
-abbrev pub TakesFrame : Reception → List ℕ → Added → List ℕ → List ℕ → Type 0
+abbrev pub TakesFrame : Reception → List ℕ → Result ℕ Reason → List ℕ → List ℕ → Type 0
 TakesFrame s frame r map buffer = Adds s (of_piece (piece_data_in frame)) (taking_frame s frame) r map buffer

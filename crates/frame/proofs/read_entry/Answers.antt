@@ -1,5 +1,9 @@
 -- `frame::read_entry` meets its contract: the head's answer where it refuses, and else that of the information behind it.
 -- Assumes nothing.
+use mathlib.Core.Path.{◌≡◌, refl, ◌∙◌}
+use Rattle.std.proofs.Common.{rules}
+use Rattle.reason.specs.Reasons.{number_of}
+use Rattle.reason.specs.Answer.{refused, answer_of}
 use Rattle.ax25.specs.Information.{directory_protocol}
 use Rattle.frame.specs.Entry.{entry_checks, entry_fields, read_entry}
 use Rattle.ax25.proofs.Layers.{long, behind_head, refused_head}
@@ -7,15 +11,17 @@ use Rattle.frame.proofs.read_entry.Goals as goal
 
 -- behind an accepted head there is information
 pub slice_bounds-read-count : goal.slice_bounds-read-count
-slice_bounds-read-count c = long directory_protocol c.args.frame.now entry_checks entry_fields _ c.read_head.ensures _ c.in-Accepted.is
+slice_bounds-read-count c = long directory_protocol c.args.frame.now entry_checks entry_fields _ c.in_ok-head.ensures _ refl
 
 pub slice_bounds-read-start : goal.slice_bounds-read-start
-slice_bounds-read-start c = long directory_protocol c.args.frame.now entry_checks entry_fields _ c.read_head.ensures _ c.in-Accepted.is
+slice_bounds-read-start c = long directory_protocol c.args.frame.now entry_checks entry_fields _ c.in_ok-head.ensures _ refl
 
-pub returns-in-Accepted : goal.returns-in-Accepted
+pub returns : goal.returns
 unfolding read_entry
-returns-in-Accepted c = behind_head directory_protocol c.args.frame.now entry_checks entry_fields _ c.read_head.ensures _ c.in-Accepted.is _ c.read.ensures
+returns c = behind_head directory_protocol c.args.frame.now entry_checks entry_fields _ c.in_ok-head.ensures _ refl _ c.read.ensures
 
-pub returns-in-Refused : goal.returns-in-Refused
+pub returns-in_err-head : goal.returns-in_err-head
 unfolding read_entry
-returns-in-Refused c = refused_head directory_protocol c.args.frame.now entry_checks entry_fields _ c.read_head.ensures _ c.in-Refused.is
+returns-in_err-head c =
+    let passed : answer_of c.from_residual.result ≡ refused (number_of c.in_err-head.field-0.0) = search rules in
+    passed ∙ refused_head directory_protocol c.args.frame.now entry_checks entry_fields _ c.in_err-head.ensures _ refl

@@ -44,7 +44,7 @@ pub overflow_sub-result : goal.overflow_sub-result
 overflow_sub-result c =
     let x = c.args in
     let start = c.hole_start-start.result in
-    omega (arith, first_from (held x.map.now) start (x.length - start), c.first_held-end.ensures)
+    omega (arith, first_from (held x.map.now) start (x.length - start), c.first_on-end.ensures)
 
 pub returns : goal.returns
 returns c =
@@ -53,4 +53,4 @@ returns c =
     let room : map_size x.length ≤ length x.map.now = ltb-false (length x.map.now) (map_size x.length) (sym c.short_map.ensures ∙ c.if-short_map.false) in
     let start = c.hole_start-start.result in
     let is = c.hole_start-start.ensures in
-    sym (lists x.length x.map.now x.place right room (omega (arith, is)) ∙ ap accepted (hole_is x.length x.map.now x.place start c.first_held-end.result is c.first_held-end.ensures))
+    sym (lists x.length x.map.now x.place right room (omega (arith, is)) ∙ ap accepted (hole_is x.length x.map.now x.place start c.first_on-end.result is c.first_on-end.ensures))

@@ -1,46 +1,50 @@
 -- `positions::count_held` meets its contract: whole bytes, and the lowest bits of the one behind them.
 -- Assumes nothing.
-use mathlib.Core.Path.{◌≡◌, sym, ap, ap₂, ◌∙◌}
+use mathlib.Core.Path.{◌≡◌, ap, ap₂, ◌∙◌}
 use mathlib.Core.List.{List}
-use Prim.Native.Nat.{ℕ, ◌+◌, ◌-◌, ◌*◌, ◌/◌, ◌%◌, ◌^◌, ◌≤◌}
-use native.Mathlib.Nat.{add-zero}
+use Prim.Native.Nat.{ℕ, ◌+◌, ◌*◌, ◌/◌, ◌%◌, ◌^◌, min}
 use native.Mathlib.Omega.{arith}
 use lib.Count.{ones}
-use lib.ListN.{length}
-use Rattle.octets.specs.Numbers.{byte_at}
+use lib.ListN.{length, take}
+use Rattle.std.specs.Prelude.{sum_by}
+use Rattle.std.proofs.lemmas.List.{take_min}
+use Rattle.octets.specs.Numbers.{byte_at, AllBytes}
 use Rattle.positions.specs.Spans.{count}
 use Rattle.positions.specs.Map.{held}
-use Rattle.positions.proofs.SpanLaws.{count_split, count_zero, count_most}
-use Rattle.positions.proofs.MapLaws.{held_past, count_low}
+use Rattle.positions.proofs.SpanLaws.{count_most}
+use Rattle.positions.proofs.MapLaws.{count_bytes, count_low}
 use Rattle.positions.proofs.count_held.Goals as goal
 
--- the positions in the map, where it is too short
-in_map : (m : List ℕ) (n : ℕ) → length m ≤ n / 8 → count (held m) 0 (length m * 8) ≡ count (held m) 0 n
-in_map m n h =
-    let e : length m * 8 + (n - length m * 8) ≡ n = omega arith in
-    sym (add-zero (count (held m) 0 (length m * 8)))
-    ∙ ap (λ (k : ℕ). count (held m) 0 (length m * 8) + k) (sym (count_zero (held m) (0 + length m * 8) (n - length m * 8) (λ p g _. held_past m p (omega arith))))
-    ∙ sym (count_split (held m) 0 (length m * 8) (n - length m * 8))
-    ∙ ap (count (held m) 0) e
+-- the first i bytes of a map, all of it where it has no more
+in_map : (m : List ℕ) (i j : ℕ) → AllBytes m → j ≡ min i (length m) → sum_by ones (take j m) ≡ count (held m) 0 (i * 8)
+in_map m i j all e = ap (sum_by ones) (ap (λ (k : ℕ). take k m) e ∙ take_min i m) ∙ count_bytes m i all
 
--- whole bytes, and the positions behind them
-two_parts : (m : List ℕ) (n : ℕ) → count (held m) 0 (n / 8 * 8) + ones (byte_at m (n / 8) % 2 ^ (n % 8)) ≡ count (held m) 0 n
-two_parts m n = let e : n / 8 * 8 + n % 8 ≡ n = omega arith in count_low m (n / 8) (n % 8) (omega arith) ∙ ap (count (held m) 0) e
+-- whole bytes, and the positions behind them, as they were counted
+sum : (m : List ℕ) (n j whole low set byte : ℕ) → AllBytes m → j ≡ min (n / 8) (length m) → whole ≡ sum_by ones (take j m) → byte ≡ byte_at m (n / 8)
+    → low ≡ byte % 2 ^ (n % 8) → set ≡ ones low → whole + set ≡ count (held m) 0 n
+sum m n j whole low set byte all a b d e f =
+    let places : n / 8 * 8 + n % 8 ≡ n = omega arith in
+    ap₂ (λ (x y : ℕ). x + y) (b ∙ in_map m (n / 8) j all a) (f ∙ ap ones (e ∙ ap (λ (x : ℕ). x % 2 ^ (n % 8)) d))
+    ∙ count_low m (n / 8) (n % 8) (omega arith)
+    ∙ ap (count (held m) 0) places
 
--- .. as they were counted
-sum : (m : List ℕ) (n whole low set : ℕ) → whole ≡ count (held m) 0 (n / 8 * 8) → low ≡ byte_at m (n / 8) % 2 ^ (n % 8) → set ≡ ones low
-    → whole + set ≡ count (held m) 0 n
-sum m n whole low set a b c = ap₂ (λ (x y : ℕ). x + y) a (c ∙ ap ones b) ∙ two_parts m n
-
-pub returns-then-map-i : goal.returns-then-map-i
-returns-then-map-i c = c.count_bytes.ensures ∙ in_map c.args.map.now c.args.n c.if-map-i.true
+pub count_bytes-requires : goal.count_bytes-requires
+count_bytes-requires c =
+    let m = c.args.map.now in
+    let e = in_map m (c.args.n / 8) c.min.result (λ i. (c.type_inv.map i).fits) c.min.ensures in
+    let b = count_most (held m) 0 (c.args.n / 8 * 8) in
+    let f = c.ranges.n in
+    omega (arith, e, b, f)
 
 pub overflow_add-result : goal.overflow_add-result
 overflow_add-result c =
-    let a = sum c.args.map.now c.args.n _ _ _ c.count_bytes-whole.ensures c.lowest.ensures c.count_set.ensures in
-    let b = count_most (held c.args.map.now) 0 c.args.n in
+    let m = c.args.map.now in
+    let e =
+    sum m c.args.n c.min.result c.count_bytes.result _ _ _ (λ i. (c.type_inv.map i).fits) c.min.ensures c.count_bytes.ensures c.byte.ensures c.lowest-last.ensures c.count_set.ensures in
+    let b = count_most (held m) 0 c.args.n in
     let f = c.ranges.n in
-    omega (arith, a, b, f)
+    omega (arith, e, b, f)
 
 pub returns : goal.returns
-returns c = sum c.args.map.now c.args.n _ _ _ c.count_bytes-whole.ensures c.lowest.ensures c.count_set.ensures
+returns c =
+    sum c.args.map.now c.args.n c.min.result _ _ _ _ (λ i. (c.type_inv.map i).fits) c.min.ensures c.count_bytes.ensures c.byte.ensures c.lowest-last.ensures c.count_set.ensures

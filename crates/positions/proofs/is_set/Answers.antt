@@ -1,8 +1,9 @@
 -- `positions::is_set` meets its contract: the shift and the mask give the bit, and beyond a byte's length there is none.
 -- Assumes nothing.
 use mathlib.Core.Path.{sym}
+use Rattle.std.proofs.lemmas.Nat.Bits.{shr_and_one}
 use Rattle.positions.specs.Map.{bit}
-use Rattle.positions.proofs.BitLaws.{and_one, set_high}
+use Rattle.positions.proofs.BitLaws.{set_high}
 use Rattle.positions.proofs.is_set.Goals as goal
 
 pub returns-then-k-ge8 : goal.returns-then-k-ge8
@@ -10,4 +11,4 @@ returns-then-k-ge8 c = sym (set_high 8 c.args.b c.args.k c.ranges.b.fits c.if-k-
 
 pub returns : goal.returns
 unfolding bit
-returns c = simp and_one
+returns c = simp shr_and_one

@@ -6,7 +6,7 @@ use native.Mathlib.Nat.{mod-eq_of_lt, lt_of_lt_of_le}
 use native.Mathlib.Omega.{arith}
 use lib.Bits.{bit_and, and_mask}
 use lib.Pow.{pow_mono}
-use Rattle.positions.proofs.BitLaws.{one_shl}
+use Rattle.std.proofs.lemmas.Nat.{one_shl}
 use Rattle.positions.proofs.lowest.Goals as goal
 
 pub returns-then-n-ge8 : goal.returns-then-n-ge8
@@ -14,5 +14,5 @@ returns-then-n-ge8 c = sym (mod-eq_of_lt (lt_of_lt_of_le c.ranges.b.fits (pow_mo
 
 pub returns : goal.returns
 returns c =
-    ap (λ (x : ℕ). bit_and c.args.b (x - 1)) (one_shl c.args.n (omega arith))
+    ap (λ (x : ℕ). bit_and c.args.b (x - 1)) (one_shl c.args.n 8 (omega arith))
     ∙ and_mask c.args.b c.args.n

@@ -10,6 +10,7 @@ use lib.Dec.{eqb}
 use lib.Bits.{bit_or, or_lt}
 use lib.Pow.{pow-lt}
 use borrow.Author.Tests.{ne_eqb}
+use Rattle.std.proofs.lemmas.Nat.{one_shl}
 use Rattle.octets.specs.Numbers.{byte_at, AllBytes}
 use Rattle.positions.specs.Map.{held, map_of}
 use Rattle.positions.proofs.MapLaws.{held_mark, map_is, set_bytes}
@@ -25,19 +26,18 @@ beyond m p h all =
     (λ q l. sym (or-false (held m q)) ∙ ap (λ (b : Bool). held m q || b) (sym (ne_eqb q p (other m p q h l))))
 
 -- the map with one bit more is the map that holds one position more
-marked : (m : List ℕ) (p b : ℕ) → p / 8 < length m → AllBytes m → b ≡ bit_or (byte_at m (p / 8)) (2 ^ (p % 8))
-    → set m (p / 8) b ≡ map_of (λ q. held m q || eqb q p) (length m)
-marked m p b h all e =
-    ap (set m (p / 8)) e
-    ∙ map_is (λ q. held m q || eqb q p) _ (length m)
-    (set_bytes m (p / 8) _ h all (or_lt 8 (byte_at m (p / 8)) (2 ^ (p % 8)) (all (p / 8)) (pow-lt {j = 8} (omega arith))))
-    (length-set m (p / 8) _)
+marked : (m : List ℕ) (p : ℕ) → p / 8 < length m → AllBytes m
+    → set m (p / 8) (bit_or (byte_at m (p / 8)) (1 * 2 ^ (p % 8) % 256)) ≡ map_of (λ q. held m q || eqb q p) (length m)
+marked m p h all =
+    let new = bit_or (byte_at m (p / 8)) (2 ^ (p % 8)) in
+    ap (λ (x : ℕ). set m (p / 8) (bit_or (byte_at m (p / 8)) x)) (one_shl (p % 8) 8 (omega arith))
+    ∙ map_is (λ q. held m q || eqb q p) (set m (p / 8) new) (length m)
+    (set_bytes m (p / 8) new h all (or_lt 8 (byte_at m (p / 8)) (2 ^ (p % 8)) (all (p / 8)) (pow-lt {j = 8} (omega arith))))
+    (length-set m (p / 8) new)
     (λ q _. held_mark m p q h)
 
-pub returns-then-map-p : goal.returns-then-map-p
-returns-then-map-p c = beyond c.args.map.now c.args.p c.if-map-p.true (λ i. (c.type_inv.map i).fits)
+pub returns-then-p-map : goal.returns-then-p-map
+returns-then-p-map c = marked c.args.map.now c.args.p c.if-p-map.true (λ i. (c.slice_known-1.given i).fits)
 
-pub returns : goal.returns
-returns c =
-    let all : AllBytes c.args.map.now = λ i. (c.slice_known-1.given i).fits in
-    marked c.args.map.now c.args.p c.with_set.result (omega arith) all c.with_set.ensures
+pub returns-else-p-map : goal.returns-else-p-map
+returns-else-p-map c = beyond c.args.map.now c.args.p c.if-p-map.false (λ i. (c.type_inv.map i).fits)

@@ -1,37 +1,39 @@
--- `record::load` meets its contract: two tests, then the map and the buffer are written.
+-- `record::load` meets its contract: the record is read, then the map and the buffer are written.
 -- Assumes nothing.
 use mathlib.Core.Path.{◌≡◌, sym, ap, ◌∙◌}
-use mathlib.Core.Bool.{true}
+use Rattle.std.proofs.Common.{rules}
+use Rattle.std.specs.Prelude.{Err}
+use Rattle.reason.specs.declared.Reason.TheVariants.{Space}
+use Rattle.reason.specs.Reasons.{number_of}
 use Rattle.reception.specs.Reception.{short_space}
-use Rattle.record.specs.declared.Recorded.{Recorded}
-use Rattle.record.specs.Reading.{length_in, is_record}
-use Rattle.record.proofs.GivenAnswers.{loads_13, loads_12, loads_refused, loads_accepted}
+use Rattle.reception.specs.declared.File.{File}
+use Rattle.record.specs.Reading.{length_in}
+use Rattle.record.proofs.GivenAnswers.{not_read, read_says, loads_13, loads_12, loads_refused, loads_accepted}
 use Rattle.record.proofs.load.Goals as goal
 
-pub is_record-requires : goal.is_record-requires
-is_record-requires c = ap (λ (x : Recorded). x.length) c.says-said.ensures
-
-pub returns-then-not-is_record : goal.returns-then-not-is_record
-returns-then-not-is_record c =
+pub returns-in_err-file : goal.returns-in_err-file
+returns-in_err-file c =
     let a = c.args in
-    loads_refused a.saved.now a.map.now a.buffer.now 13
-    (loads_13 a.saved.now a.map.now a.buffer.now (sym c.is_record.ensures ∙ c.if-not-is_record.true))
+    let reason = c.in_err-file.field-0.0 in
+    let passed : c.from_residual.result ≡ Err reason = search rules in
+    let w = not_read a.saved.now (number_of reason) (sym c.in_err-file.ensures) in
+    rw passed (loads_refused a.saved.now a.map.now a.buffer.now reason (rw w.1 (loads_13 a.saved.now a.map.now a.buffer.now w.0)))
 
 pub returns-then-short : goal.returns-then-short
 returns-then-short c =
     let a = c.args in
-    let formed : is_record a.saved.now ≡ true = sym c.is_record.ensures ∙ c.if-not-is_record.false in
+    let w = read_says a.saved.now c.in_ok-file.file (sym c.in_ok-file.ensures) in
     let short_is : c.short.result ≡ short_space (length_in a.saved.now) a.map.now a.buffer.now =
-    c.short.ensures ∙ ap (λ (x : Recorded). short_space x.length a.map.now a.buffer.now) c.says-said.ensures in
-    loads_refused a.saved.now a.map.now a.buffer.now 12
-    (loads_12 a.saved.now a.map.now a.buffer.now formed (sym short_is ∙ c.if-short.true))
+    c.short.ensures ∙ ap (λ (x : File). short_space x.length a.map.now a.buffer.now) w.1 in
+    loads_refused a.saved.now a.map.now a.buffer.now Space
+    (loads_12 a.saved.now a.map.now a.buffer.now w.0 (sym short_is ∙ c.if-short.true))
 
 pub returns : goal.returns
 returns c =
     let a = c.args in
-    let formed : is_record a.saved.now ≡ true = sym c.is_record.ensures ∙ c.if-not-is_record.false in
+    let w = read_says a.saved.now c.in_ok-file.file (sym c.in_ok-file.ensures) in
     let short_is : c.short.result ≡ short_space (length_in a.saved.now) a.map.now a.buffer.now =
-    c.short.ensures ∙ ap (λ (x : Recorded). short_space x.length a.map.now a.buffer.now) c.says-said.ensures in
-    loads_accepted a.saved.now a.map.now a.buffer.now formed (sym short_is ∙ c.if-short.false) c.says-said.result c.says-said.ensures
+    c.short.ensures ∙ ap (λ (x : File). short_space x.length a.map.now a.buffer.now) w.1 in
+    loads_accepted a.saved.now a.map.now a.buffer.now w.0 (sym short_is ∙ c.if-short.false) c.in_ok-file.file w.1
     c.map_by.result.now c.buffer_by.result.now c.map_by.ensures c.buffer_by.ensures _ _ _ _
     c.put.ensures c.put-2.ensures

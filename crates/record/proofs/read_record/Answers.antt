@@ -2,15 +2,11 @@
 -- Assumes nothing.
 use mathlib.Core.Path.{sym, ap, ◌∙◌}
 use Rattle.reason.specs.Answer.{accepted}
-use Rattle.record.specs.declared.Recorded.{Recorded}
 use Rattle.record.proofs.GivenAnswers.{reads_13, reads}
 use Rattle.record.proofs.read_record.Goals as goal
-
-pub is_record-requires : goal.is_record-requires
-is_record-requires c = ap (λ (x : Recorded). x.length) c.says-said.ensures
 
 pub returns-then-not-is_record : goal.returns-then-not-is_record
 returns-then-not-is_record c = sym (reads_13 c.args.saved.now (sym c.is_record.ensures ∙ c.if-not-is_record.true))
 
 pub returns : goal.returns
-returns c = ap accepted c.says-said.ensures ∙ sym (reads c.args.saved.now (sym c.is_record.ensures ∙ c.if-not-is_record.false))
+returns c = ap accepted c.says.ensures ∙ sym (reads c.args.saved.now (sym c.is_record.ensures ∙ c.if-not-is_record.false))

@@ -1,10 +1,14 @@
--- `ax25::spelling::is_name` meets its contract: its twelve tests are the definition, by what `is_character` ensures.
+-- `ax25::spelling::is_name` meets its contract: before the first character the two say what the definitions say of all six.
 -- Assumes nothing.
-use mathlib.Core.Bool.{and-true}
-use Rattle.ax25.specs.Address.{is_name}
+use Rattle.std.proofs.Common.{[], ◌∷◌, refl, arith}
+use lib.Seq.{append_snoc}
+use Rattle.std.proofs.lemmas.List.{append-nil}
 use Rattle.ax25.proofs.spelling.is_name.Goals as goal
 
-pub returns : goal.returns
-unfolding is_name
-returns c =
-    simp (c.is_character-6.ensures, c.is_character-5.ensures, c.is_character-4.ensures, c.is_character-3.ensures, c.is_character-2.ensures, c.is_character.ensures, and-true)
+pub loop-c-init : goal.loop-c-init
+loop-c-init c = ([], grind (arith, append-nil), refl, refl)
+
+pub loop-c-preserved : goal.loop-c-preserved
+loop-c-preserved c =
+    let i = c.loop-c.invariant in
+    (c.in-Some.c.now ∷ i.0, grind (arith, append_snoc), grind arith, grind arith)

@@ -1,6 +1,7 @@
 -- `frame::entries::read` meets its contract: each return is one of the laws of an entry, in the order of its reasons.
 -- Assumes nothing.
-use mathlib.Core.Path.{◌≡◌, sym, ap, ◌∙◌}
+use mathlib.Core.Path.{◌≡◌, refl, sym, ap, ◌∙◌}
+use Rattle.std.proofs.Common.{rules}
 use mathlib.Core.Bool.{Bool, true, false, ◌&&◌, and-false}
 use mathlib.Core.List.{List}
 use Prim.Native.Nat.{ℕ, ◌-◌, ◌≤◌}
@@ -9,15 +10,16 @@ use lib.Dec.{eqb}
 use lib.ListN.{length, drop, length-drop}
 use lib.Seq.{length-take-le}
 use borrow.Author.Tests.{eq-eqb, ne_eqb}
-use Rattle.reason.specs.Answer.{accepted}
+use Rattle.std.specs.Prelude.{Result, Ok, Err}
+use Rattle.reason.specs.declared.Reason.{Reason}
+use Rattle.reason.specs.Reasons.{number_of}
+use Rattle.reason.specs.Answer.{accepted, refused, answer_of}
 use Rattle.reason.proofs.Bools.{and_both}
 use Rattle.octets.specs.Numbers.{byte_at, number_at}
 use Rattle.remainder.specs.Check.{check_right}
 use Rattle.ax25.specs.declared.Head.{Head}
 use Rattle.header.specs.declared.Header.{Header}
-use Rattle.header.specs.declared.HeaderRead.{HeaderRead}
-use Rattle.header.specs.declared.HeaderRead.TheVariants as header
-use Rattle.header.specs.Header.{header_length, keeps_rules, header_of, header_answer, read_header}
+use Rattle.header.specs.Header.{header_length, keeps_rules, header_of, read_header}
 use Rattle.header.proofs.HeaderLaws.{header_accepted, header_refused, told_size}
 use Rattle.frame.specs.declared.Entry.{Entry}
 use Rattle.frame.specs.Entry.{flags_allowed, header_whole, header_part, header_right, entry_fields}
@@ -25,21 +27,21 @@ use Rattle.frame.proofs.EntryLaws.{reads_1, reads_6, reads_5, reads_14, reads_8,
 use Rattle.frame.proofs.entries.read.Goals as goal
 
 -- what reading the header part says: refused; of another length than the part; and all of the part
-module _ (s : List ℕ) (long : 19 ≤ length s) (number : ℕ) (named : number ≡ number_at 4 s 1) (r : HeaderRead) (read : header_answer r ≡ read_header (header_part s) number) where
+module _ (s : List ℕ) (long : 19 ≤ length s) (number : ℕ) (named : number ≡ number_at 4 s 1) (r : Result Header Reason) (read : answer_of r ≡ read_header (header_part s) number) where
   part_long : length (header_part s) ≡ length s - 2 - 17
   part_long = length-take-le (length s - 2 - 17) (drop 17 s) (omega (arith, length-drop 17 s))
 
-  not_header : (n : ℕ) → r ≡ header.Refused n → header_right s ≡ false
-  not_header n told =
-      let k = (header_refused (header_part s) number n (sym read ∙ ap header_answer told)).0 in
+  not_header : (reason : Reason) → r ≡ Err reason → header_right s ≡ false
+  not_header reason told =
+      let k = (header_refused (header_part s) number (number_of reason) (sym read ∙ ap answer_of told)).0 in
       ap (λ (b : Bool). b && eqb (header_length (header_part s)) (length (header_part s))) (ap (keeps_rules (header_part s)) (sym named) ∙ k)
 
-  module _ (h : Header) (told : r ≡ header.Accepted h) where
+  module _ (h : Header) (told : r ≡ Ok h) where
     is : h ≡ header_of (header_part s)
-    is = (header_accepted (header_part s) number h (sym read ∙ ap header_answer told)).1
+    is = (header_accepted (header_part s) number h (sym read ∙ ap answer_of told)).1
 
     kept : keeps_rules (header_part s) (number_at 4 s 1) ≡ true
-    kept = ap (keeps_rules (header_part s)) (sym named) ∙ (header_accepted (header_part s) number h (sym read ∙ ap header_answer told)).0
+    kept = ap (keeps_rules (header_part s)) (sym named) ∙ (header_accepted (header_part s) number h (sym read ∙ ap answer_of told)).0
 
     sized : h.size ≡ header_length (header_part s)
     sized = ap (λ (x : Header). x.size) is ∙ told_size (header_part s)
@@ -82,16 +84,19 @@ returns-then-not-header_whole c =
     let s = c.args.s.now in
     let right : check_right s ≡ true = sym c.check_right.ensures ∙ c.if-not-check_right.false in
     let flagged : flags_allowed (byte_at s 0) ≡ true = sym c.flags_allowed.ensures ∙ c.if-not-flags_allowed.false in
-    sym (reads_14 s _ c.if-s-lt-LEAST.false right flagged (judged s _ _ false c.number4-offset.ensures c.header_whole.ensures c.if-not-header_whole.true))
+    sym (reads_14 s _ c.if-s-lt-LEAST.false right flagged (judged s _ _ false c.number-offset.ensures.value c.header_whole.ensures c.if-not-header_whole.true))
 
-pub returns-in_default : goal.returns-in_default
-returns-in_default c =
+pub returns-in_err-header : goal.returns-in_err-header
+returns-in_err-header c =
     let s = c.args.s.now in
     let long : 19 ≤ length s = c.if-s-lt-LEAST.false in
     let right : check_right s ≡ true = sym c.check_right.ensures ∙ c.if-not-check_right.false in
     let flagged : flags_allowed (byte_at s 0) ≡ true = sym c.flags_allowed.ensures ∙ c.if-not-flags_allowed.false in
-    let whole = judged s _ _ true c.number4-offset.ensures c.header_whole.ensures c.if-not-header_whole.false in
-    sym (reads_8 s _ long right flagged whole (not_header s long _ c.number4-number.ensures _ c.read_header.ensures _ c.in_default.is))
+    let whole = judged s _ _ true c.number-offset.ensures.value c.header_whole.ensures c.if-not-header_whole.false in
+    let n = number_of c.in_err-header.field-0.0 in
+    let passed : answer_of c.from_residual.result ≡ refused n = search rules in
+    let is_8 : n ≡ 8 = (header_refused (header_part s) _ n (sym c.in_err-header.ensures)).1 in
+    passed ∙ ap refused is_8 ∙ sym (reads_8 s _ long right flagged whole (not_header s long _ c.number-number.ensures.value _ c.in_err-header.ensures _ refl))
 
 pub returns-then-header-end : goal.returns-then-header-end
 returns-then-header-end c =
@@ -99,8 +104,8 @@ returns-then-header-end c =
     let long : 19 ≤ length s = c.if-s-lt-LEAST.false in
     let right : check_right s ≡ true = sym c.check_right.ensures ∙ c.if-not-check_right.false in
     let flagged : flags_allowed (byte_at s 0) ≡ true = sym c.flags_allowed.ensures ∙ c.if-not-flags_allowed.false in
-    let whole = judged s _ _ true c.number4-offset.ensures c.header_whole.ensures c.if-not-header_whole.false in
-    let wrong = followed s long _ c.number4-number.ensures _ c.read_header.ensures c.in-Accepted.header c.in-Accepted.is (λ e. omega (arith, e, c.if-header-end.true)) in
+    let whole = judged s _ _ true c.number-offset.ensures.value c.header_whole.ensures c.if-not-header_whole.false in
+    let wrong = followed s long _ c.number-number.ensures.value _ c.in_ok-header.ensures c.in_ok-header.header refl (λ e. omega (arith, e, c.if-header-end.true)) in
     sym (reads_8 s _ long right flagged whole wrong)
 
 pub returns : goal.returns
@@ -109,8 +114,8 @@ returns c =
     let long : 19 ≤ length s = c.if-s-lt-LEAST.false in
     let right : check_right s ≡ true = sym c.check_right.ensures ∙ c.if-not-check_right.false in
     let flagged : flags_allowed (byte_at s 0) ≡ true = sym c.flags_allowed.ensures ∙ c.if-not-flags_allowed.false in
-    let whole = judged s _ _ true c.number4-offset.ensures c.header_whole.ensures c.if-not-header_whole.false in
-    let part = is s long _ c.number4-number.ensures _ c.read_header.ensures c.in-Accepted.header c.in-Accepted.is in
-    let good = alone s long _ c.number4-number.ensures _ c.read_header.ensures c.in-Accepted.header c.in-Accepted.is c.if-header-end.false in
-    ap accepted (fields c.args.head s _ _ _ _ _ c.number4-number.ensures c.number4-offset.ensures c.number4-old.ensures c.number4-new.ensures part)
+    let whole = judged s _ _ true c.number-offset.ensures.value c.header_whole.ensures c.if-not-header_whole.false in
+    let part = is s long _ c.number-number.ensures.value _ c.in_ok-header.ensures c.in_ok-header.header refl in
+    let good = alone s long _ c.number-number.ensures.value _ c.in_ok-header.ensures c.in_ok-header.header refl c.if-header-end.false in
+    ap accepted (fields c.args.head s _ _ _ _ _ c.number-number.ensures.value c.number-offset.ensures.value c.number-old.ensures.value c.number-new.ensures.value part)
     ∙ sym (reads_entry s _ long right flagged whole good)

@@ -38,5 +38,5 @@ pub returns : goal.returns
 returns c =
     let a = c.args in
     let right : check_right a.s.now ≡ true = sym c.check_right.ensures ∙ c.if-not-check_right.false in
-    ap accepted (fields a.head a.s.now _ _ c.number4-number.ensures c.number3-offset.ensures.value)
+    ap accepted (fields a.head a.s.now _ _ c.number-number.ensures.value c.number-offset.ensures.value)
     ∙ sym (reads_piece a.s.now _ c.if-s-lt-LEAST.false right c.if-s-ne-FLAGS.false c.if-s-eq-LEAST.false)

@@ -4,7 +4,7 @@ use Rattle.header.proofs.NoteLaws.{SoFar}
 use Rattle.header.proofs.notes.walk.Given as goal
 
 abbrev pub invariant-loop-item : goal.invariant-loop-item
-invariant-loop-item l = SoFar l.s l.cursor.at l.counts l.sizes l.starts
+invariant-loop-item l = SoFar l.s l.cursor.at l.notes
 
 abbrev pub decreases-loop-item : goal.decreases-loop-item
 decreases-loop-item l = length l.s - l.cursor.at

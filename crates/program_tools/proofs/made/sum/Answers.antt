@@ -1,17 +1,16 @@
--- `program_tools::made::sum` meets its contract.
--- Assumes nothing.
-use Rattle.std.proofs.Common.{◌≡◌, ℕ, ◌+◌, ◌<◌, ◌≤◌, List, length, get_or, drop, sym, ap, ◌∙◌, add-one, arith, drop_of_length-le, drop-cons}
+use Rattle.std.proofs.Common.{◌≡◌, ℕ, List, [], ◌∷◌, ◌++◌, refl, subst, rules}
+use Rattle.std.proofs.lemmas.Fn.{fold_over, slice_gives, fronts}
 use Rattle.program_tools.specs.Made.{summed_with, sum_from}
 use Rattle.program_tools.proofs.made.sum.Goals as goal
 
-more : (s : List ℕ) (t d i : ℕ) → d ≡ summed_with t (get_or s i 0) → i < length s → sum_from d (drop (i + 1) s) ≡ sum_from t (drop i s)
-more s t d i e h = ap (λ (n : ℕ). sum_from n (drop (i + 1) s)) e ∙ rw (add-one i, drop-cons s i 0)
-
-end : (s : List ℕ) (t i : ℕ) → length s ≤ i → sum_from t (drop i s) ≡ t
-end s t i h = rw drop_of_length-le
-
-pub loop-i-preserved : goal.loop-i-preserved
-loop-i-preserved c = (omega arith, more c.args.bytes.now c.loop-i.total _ c.loop-i.i c.and_byte-total.ensures (omega arith) ∙ c.loop-i.invariant.1)
+-- with one byte more at the end
+more : (s : List ℕ) (total b : ℕ) → sum_from total (s ++ b ∷ []) ≡ summed_with (sum_from total s) b
+more [] total b = refl
+more (a ∷ s) total b = more s (summed_with total a) b
 
 pub returns : goal.returns
-returns c = sym (end c.args.bytes.now c.loop-i.total c.loop-i.i (omega arith)) ∙ c.loop-i.invariant.1
+returns c =
+    subst (λ s. c.fold.result ≡ sum_from 0 s) c.iter.ensures.rest
+    (fold_over fronts (λ y. y.now) _ (λ s total. total ≡ sum_from 0 s) _
+    (λ s total b next f' j k. let last = more s 0 b.now in search rules)
+    _ _ _ _ (slice_gives c.iter.result) refl c.fold.ensures.ran)

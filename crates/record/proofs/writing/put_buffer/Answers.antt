@@ -1,65 +1,77 @@
--- `record::writing::put_buffer` meets its contract: the bytes of the map bytes so far are written, and those of the last one behind them.
+-- `record::writing::put_buffer` meets its contract: the bytes of whole map bytes are written, and those of the last one behind them.
 -- Assumes nothing.
 use mathlib.Core.Path.{◌≡◌, sym, ap, ◌∙◌}
 use mathlib.Core.Bool.{cond}
-use mathlib.Core.List.{List}
-use Prim.Native.Nat.{ℕ, ◌+◌, ◌-◌, ◌≤◌}
+use mathlib.Core.List.{List, []}
+use Prim.Native.Nat.{ℕ, ◌+◌, ◌-◌, ◌*◌, ◌/◌, ◌%◌, ◌≤◌, ◌<◌}
 use native.Mathlib.Omega.{arith}
-use lib.ListN.{length}
+use lib.ListN.{length, get_or, take, drop}
+use lib.Seq.{length-take-le}
 use Rattle.octets.specs.Numbers.{byte_at}
 use Rattle.octets.specs.Values.{values_from}
 use Rattle.octets.specs.Runs.{put_in}
-use Rattle.octets.proofs.RunLaws.{put_nothing}
+use Rattle.octets.proofs.ValueLaws.{values_long}
+use Rattle.octets.proofs.RunLaws.{put_fits, put_nothing}
 use Rattle.positions.specs.Map.{held}
-use Rattle.record.proofs.PutLaws.{same_long, saved_run_more}
+use Rattle.record.specs.Inner.{byte_saved}
+use Rattle.record.proofs.ReadSteps.{chunk_byte, rest_byte}
+use Rattle.record.proofs.PutLaws.{copied, values_take, saved_run_more}
 use Rattle.record.proofs.writing.put_buffer.Goals as goal
 
 -- the bytes of the positions, unheld ones zero
 abbrev F : List ℕ → List ℕ → ℕ → ℕ
 F m b = λ q. cond (held m q) (byte_at b q) 0
 
--- the target is as long as it was
-long : (m b out : List ℕ) (at p : ℕ) (so_far : List ℕ) → at + p ≤ length out → so_far ≡ put_in out at (values_from (F m b) 0 p)
-    → length so_far ≡ length out
-long m b out at p so_far h is = same_long (F m b) out at 0 p so_far h is
+pub loop-i-init : goal.loop-i-init
+loop-i-init c = sym (put_nothing c.args.target.now c.args.at)
 
-pub loop-p-init : goal.loop-p-init
-loop-p-init c = (omega arith, omega arith, sym (put_nothing c.args.target.now c.args.at))
-
-pub put_eight-requires : goal.put_eight-requires
-put_eight-requires c =
+pub loop-i-preserved : goal.loop-i-preserved
+loop-i-preserved c =
     let a = c.args in
-    let e = long a.map.now a.buffer.now a.target.now a.at c.loop-p.p c.loop-p.target (omega arith) c.loop-p.invariant.2 in
-    (omega arith, omega (arith, e))
+    let d = c.loop-i in
+    let s = c.as_saved in
+    let l = a.reception.file.length in
+    let m = a.reception.map.now in
+    let b = a.reception.buffer.now in
+    let k = c.as_chunks.ensures in
+    let p = a.at + d.i * 8 in
+    let eight = get_or c.as_chunks.result.0.now d.i [] in
+    let long = length-take-le l b c.requires.room.buffered in
+    let test = c.loop-i-test.true in
+    let few : d.i < length (take l b) / 8 = omega (arith, test, k.front_len) in
+    let below : d.i * 8 + 8 ≤ l = omega (arith, few, long) in
+    let size : length s.result ≡ 8 = ap length s.ensures ∙ values_long (byte_saved (byte_at m d.i) eight) 0 8 in
+    let same : (j : ℕ) → j < 8 → byte_at eight j ≡ byte_at b (d.i * 8 + j) =
+    chunk_byte b l (length (take l b) / 8) d.i eight few below (ap (λ (x : List (List ℕ)). get_or x d.i []) k.front) in
+    let kept = d.auto.target in
+    let next = copied d.target p (p + 8 - p) s.result _ (omega (arith, size, below, kept)) (omega (arith, size)) c.copy_from_slice.ensures.after in
+    let more : d.i * 8 + 8 ≡ (d.i + 1) * 8 = omega arith in
+    saved_run_more m b a.target.now a.at d.i d.target d.invariant 8 (omega arith) (omega (arith, below)) eight same _ (next ∙ ap (put_in d.target p) s.ensures)
+    ∙ ap (λ (n : ℕ). put_in a.target.now a.at (values_from (F m b) 0 n)) more
 
-pub loop-p-preserved : goal.loop-p-preserved
-loop-p-preserved c =
+pub returns-then-l-ne0 : goal.returns-then-l-ne0
+returns-then-l-ne0 c =
     let a = c.args in
-    let l = c.loop-p in (
-      omega arith,
-      omega arith,
-      saved_run_more a.map.now a.buffer.now a.target.now a.at l.p l.target l.invariant.2
-          l.invariant.1 8 (omega arith) (omega arith) _ c.put_eight.ensures,
-    )
-
-pub put_byte-requires : goal.put_byte-requires
-put_byte-requires c =
-    let a = c.args in
-    let e = long a.map.now a.buffer.now a.target.now a.at c.loop-p.p c.loop-p.target (omega arith) c.loop-p.invariant.2 in
-    (omega arith, omega arith, omega arith, omega (arith, e))
-
-pub returns-then-p-l : goal.returns-then-p-l
-returns-then-p-l c =
-    let a = c.args in
-    let l = c.loop-p in
-    let n = a.l - l.p in
-    let e : l.p + n ≡ a.l = omega arith in
-    saved_run_more a.map.now a.buffer.now a.target.now a.at l.p l.target l.invariant.2
-    l.invariant.1 n (omega arith) (omega arith) c.put_byte.new.target c.put_byte.ensures
-    ∙ ap (λ (n : ℕ). put_in a.target.now a.at (values_from (F a.map.now a.buffer.now) 0 n)) e
-
-pub returns-else-p-l : goal.returns-else-p-l
-returns-else-p-l c =
-    let a = c.args in
-    let e : c.loop-p.p ≡ a.l = omega arith in
-    c.loop-p.invariant.2 ∙ ap (λ (n : ℕ). put_in a.target.now a.at (values_from (F a.map.now a.buffer.now) 0 n)) e
+    let d = c.loop-i in
+    let s = c.as_saved-last in
+    let l = a.reception.file.length in
+    let m = a.reception.map.now in
+    let b = a.reception.buffer.now in
+    let k = c.as_chunks.ensures in
+    let rest = c.as_chunks.result.1.now in
+    let n = length rest in
+    let f = byte_saved (byte_at m (l / 8)) c.array.result in
+    let long = length-take-le l b c.requires.room.buffered in
+    let left : n ≡ l % 8 = omega (arith, long, k.back_len) in
+    let at_end : d.i ≡ l / 8 = omega (arith, long, k.front_len) in
+    let place : length (take l b) / 8 * 8 ≡ l / 8 * 8 = omega (arith, long) in
+    let run : take n s.result ≡ values_from f 0 n = ap (take n) s.ensures ∙ values_take f 0 n 8 (omega (arith, left)) in
+    let size : length (take n s.result) ≡ n = ap length run ∙ values_long f 0 n in
+    let kept = d.auto.target in
+    let next = (put_fits d.target (a.at + l / 8 * 8) (take n s.result) _ _ c.put.ensures (omega (arith, size, left, kept))).1 in
+    let so_far = d.invariant ∙ ap (λ (i : ℕ). put_in a.target.now a.at (values_from (F m b) 0 (i * 8))) at_end in
+    let all : l / 8 * 8 + n ≡ l = omega (arith, left) in
+    saved_run_more m b a.target.now a.at (l / 8) d.target so_far n (omega (arith, left)) (omega (arith, left)) c.array.result
+    (λ j h. rest_byte b l (l / 8 * 8) rest c.array.result (k.back ∙ ap (λ (i : ℕ). drop i (take l b)) place) c.array.ensures j (omega (arith, left, h)) (omega (arith, left, h)))
+    _ (next ∙ ap (put_in d.target (a.at + l / 8 * 8)) run)
+    ∙ ap (λ (i : ℕ). put_in a.target.now a.at (values_from (F m b) 0 i)) all

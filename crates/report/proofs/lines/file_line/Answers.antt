@@ -31,5 +31,5 @@ returns-clause-out_after c =
     let two = c.put_both-b.ensures in
     let three = c.put_both-c.ensures in
     let last = c.put_word.ensures in
-    (four x.out.now (file_word ++ decimal x.number) (length_word ++ decimal x.l) (held_word ++ decimal x.held) newline (omega (arith, c.requires))
+    (four x.out.now (file_word ++ decimal x.file.number) (length_word ++ decimal x.file.length) (held_word ++ decimal x.held) newline (omega (arith, c.requires))
     _ _ _ _ _ _ _ _ (one.value, one.out_after) (two.value, two.out_after) (three.value, three.out_after) (last.value, last.out_after)).1

@@ -7,13 +7,13 @@ use native.Mathlib.Omega.{arith}
 use lib.ListN.{length, length-append}
 use Rattle.octets.specs.Runs.{put_in}
 use Rattle.octets.proofs.RunLaws.{put_length, put_put, put_nothing}
-use Rattle.reason.specs.Answer.{accepted}
+use Rattle.reason.specs.Answer.{accepted, answer_of}
 use Rattle.holes.specs.declared.Hole.{Hole}
-use Rattle.holes.specs.Listing.{listing, listed_answer}
+use Rattle.holes.specs.Listing.{listing}
 use Rattle.holes.specs.EveryHole.{end_of, listed_from}
 use Rattle.report.specs.Text.{hole_line, hole_lines}
 use Rattle.report.proofs.Writes.{Written}
-use Rattle.holes.proofs.ListedLaws.{listed_bounds, listed_none, listed_beyond, listed_next}
+use Rattle.holes.proofs.ListedLaws.{listed_bounds, listed_none, listed_next}
 use Rattle.report.proofs.lines.hole_lines.Goals as goal
 
 -- what is there, with a run behind it, is the whole
@@ -63,50 +63,42 @@ module _ (out₀ : List ℕ) (from : ℕ) (whole out : List ℕ) (at l : ℕ) (m
 pub hole_line-at-requires : goal.hole_line-at-requires
 hole_line-at-requires c =
     let a = c.args in
-    let b = c.loop-place in
-    let h = c.in-Accepted.hole in
-    let listed : listing a.l a.map.now b.place ≡ accepted h = sym c.list-next.ensures ∙ ap listed_answer c.in-Accepted.is in
+    let b = c.loop-hole in
+    let h = c.in-Ok.hole in
+    let listed : listing a.l a.map.now b.place ≡ accepted h = sym c.list.ensures ∙ ap answer_of c.in-Ok.is in
     let i = hole_next a.out.now a.from (lines a.l a.map.now 0) b.out b.at a.l a.map.now b.place b.invariant h listed in
     omega (arith, i.0, i.2, c.requires, length-append (hole_line h) (lines a.l a.map.now (end_of h)))
 
 pub overflow_add-place : goal.overflow_add-place
 overflow_add-place c =
     let a = c.args in
-    let b = c.loop-place in
-    let h = c.in-Accepted.hole in
-    let listed : listing a.l a.map.now b.place ≡ accepted h = sym c.list-next.ensures ∙ ap listed_answer c.in-Accepted.is in
+    let b = c.loop-hole in
+    let h = c.in-Ok.hole in
+    let listed : listing a.l a.map.now b.place ≡ accepted h = sym c.list.ensures ∙ ap answer_of c.in-Ok.is in
     omega (arith, listed_bounds a.l a.map.now b.place h listed, c.ranges.l.fits)
 
-pub loop-place-smaller : goal.loop-place-smaller
-loop-place-smaller c =
+pub loop-hole-smaller : goal.loop-hole-smaller
+loop-hole-smaller c =
     let a = c.args in
-    let b = c.loop-place in
-    let h = c.in-Accepted.hole in
-    let listed : listing a.l a.map.now b.place ≡ accepted h = sym c.list-next.ensures ∙ ap listed_answer c.in-Accepted.is in
+    let b = c.loop-hole in
+    let h = c.in-Ok.hole in
+    let listed : listing a.l a.map.now b.place ≡ accepted h = sym c.list.ensures ∙ ap answer_of c.in-Ok.is in
     omega (arith, listed_bounds a.l a.map.now b.place h listed)
 
-pub loop-place-preserved : goal.loop-place-preserved
-loop-place-preserved c =
+pub loop-hole-preserved : goal.loop-hole-preserved
+loop-hole-preserved c =
     let a = c.args in
-    let b = c.loop-place in
-    let h = c.in-Accepted.hole in
+    let b = c.loop-hole in
+    let h = c.in-Ok.hole in
     let w = c.hole_line-at.ensures in
-    let listed : listing a.l a.map.now b.place ≡ accepted h = sym c.list-next.ensures ∙ ap listed_answer c.in-Accepted.is in
+    let listed : listing a.l a.map.now b.place ≡ accepted h = sym c.list.ensures ∙ ap answer_of c.in-Ok.is in
     less a.out.now a.from (lines a.l a.map.now 0) b.out b.at (hole_line h) (lines a.l a.map.now (end_of h)) _ _ c.requires
     (hole_next a.out.now a.from (lines a.l a.map.now 0) b.out b.at a.l a.map.now b.place b.invariant h listed) (w.value, w.out_after)
-
-pub returns-in-Refused : goal.returns-in-Refused
-returns-in-Refused c =
-    let a = c.args in
-    let b = c.loop-place in
-    let w = no_next a.out.now a.from (lines a.l a.map.now 0) b.out b.at a.l a.map.now b.place b.invariant
-    (listed_none a.l a.map.now b.place a.l _ (sym c.list-next.ensures ∙ ap listed_answer c.in-Refused.is)) in
-    record { value = w.0; out_after = w.1 }
 
 pub returns : goal.returns
 returns c =
     let a = c.args in
-    let b = c.loop-place in
+    let b = c.loop-hole in
     let w = no_next a.out.now a.from (lines a.l a.map.now 0) b.out b.at a.l a.map.now b.place b.invariant
-    (listed_beyond a.l a.map.now b.place a.l (omega arith)) in
+    (listed_none a.l a.map.now b.place a.l _ (sym c.list.ensures ∙ ap answer_of c.in_default.is)) in
     record { value = w.0; out_after = w.1 }

@@ -8,6 +8,3 @@ abbrev pub invariant-loop-i : goal.invariant-loop-i
 invariant-loop-i l =
     (l.i ≤ l.k) × (length l.out ≡ length l.initial.out)
     × (l.rest ≡ l.n / 10 ^ (l.k - l.i)) × (l.out ≡ put_in l.initial.out (l.at + l.i) (digits (l.k - l.i) l.n))
-
-abbrev pub decreases-loop-i : goal.decreases-loop-i
-decreases-loop-i l = l.i

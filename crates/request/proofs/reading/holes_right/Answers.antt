@@ -14,23 +14,21 @@ start : (s : List ℕ) (count : ℕ) → holes_right 0 (values_from (hole_in s) 
 start s count = let e : count - 0 ≡ count = omega arith in ap (λ (n : ℕ). holes_right 0 (values_from (hole_in s) 0 n)) e
 
 pub loop-i-init : goal.loop-i-init
-loop-i-init c = (omega arith, start c.args.s.now c.args.count)
+loop-i-init c = start c.args.s.now c.args.count
 
 pub returns-then-not-hole_right : goal.returns-then-not-hole_right
 returns-then-not-hole_right c =
     let l = c.loop-i in
     wrong_here c.args.s.now c.args.count l.place l.i c.hole_from-hole.result _ c.loop-i-test.true c.hole_from-hole.ensures.value
-    (sym c.hole_right.ensures ∙ c.if-not-hole_right.true) l.invariant.1
+    (sym c.hole_right.ensures ∙ c.if-not-hole_right.true) l.invariant
 
 pub loop-i-preserved : goal.loop-i-preserved
 loop-i-preserved c =
-    let l = c.loop-i in (
-      omega arith,
-      right_then c.args.s.now c.args.count l.place l.i c.hole_from-hole.result _ c.loop-i-test.true c.hole_from-hole.ensures.value
-          (sym c.hole_right.ensures ∙ c.if-not-hole_right.false) l.invariant.1,
-    )
+    let l = c.loop-i in
+    right_then c.args.s.now c.args.count l.place l.i c.hole_from-hole.result _ c.loop-i-test.true c.hole_from-hole.ensures.value
+    (sym c.hole_right.ensures ∙ c.if-not-hole_right.false) l.invariant
 
 pub returns : goal.returns
 returns c =
     let l = c.loop-i in
-    right_end c.args.s.now c.args.count l.place l.i _ c.loop-i-test.false l.invariant.1
+    right_end c.args.s.now c.args.count l.place l.i _ c.loop-i-test.false l.invariant

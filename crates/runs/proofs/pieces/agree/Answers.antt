@@ -1,40 +1,41 @@
--- `runs::pieces::agree` meets its contract: the map bytes so far agree.
+-- `runs::pieces::agree` meets its contract: the positions of the first map byte, and those behind them.
 -- Assumes nothing.
-use Rattle.std.proofs.Common.{◌≡◌, ◌-◌, length, sym, ◌∙◌, arith}
-use Rattle.positions.specs.Spans.{every}
-use Rattle.positions.proofs.SpanLaws.{all_if, part_fails, then_pass}
+use Rattle.std.proofs.Common.{◌≡◌, ◌∙◌, ◌/◌, length, true, false, sym, refl, arith}
+use Rattle.std.proofs.lemmas.Slice.{between_to_end}
+use Rattle.positions.proofs.SpanLaws.{every_none}
 use Rattle.runs.specs.Inner.{piece_agrees}
-use Rattle.runs.proofs.Steps.{rest_agrees, rest_within}
+use Rattle.runs.proofs.OfferLaws.{piece_agrees_lem}
+use Rattle.runs.proofs.PieceSteps.{ends, piece_told, rest_behind}
 use Rattle.runs.proofs.pieces.agree.Goals as goal
 
-pub returns-then-not-agree_byte : goal.returns-then-not-agree_byte
-returns-then-not-agree_byte c =
+pub returns-then-at-end : goal.returns-then-at-end
+returns-then-at-end c =
     let x = c.args in
-    let p = c.loop-p.p in
-    let next = c.byte_end-next.result in
-    let w = rest_within p _ next c.byte_end-next.ensures c.loop-p-test.true in
-    -- what was told of this map byte is told of the piece
-    let told : c.agree_byte.result ≡ every (piece_agrees x.map.now x.buffer.now x.at x.piece.now) p (next - p) =
-    rest_agrees x.map.now x.buffer.now x.at x.piece.now p next (omega (arith, w)) w.1 c.agree_byte.result c.agree_byte.ensures in
-    sym
-    (part_fails (piece_agrees x.map.now x.buffer.now x.at x.piece.now) x.at (length x.piece.now) p (next - p) c.loop-p.invariant.0 (omega (arith, w)) (sym told ∙ c.if-not-agree_byte.true))
+    let none : length x.piece.now ≡ 0 = omega arith in
+    piece_agrees_lem x.held.map.now x.held.buffer.now x.at x.piece.now true
+    (rw none (sym (every_none (piece_agrees x.held.map.now x.held.buffer.now x.at x.piece.now) x.at)))
 
-pub loop-p-preserved : goal.loop-p-preserved
-loop-p-preserved c =
+pub returns-then-not-agree : goal.returns-then-not-agree
+returns-then-not-agree c =
     let x = c.args in
-    let p = c.loop-p.p in
-    let next = c.byte_end-next.result in
-    let w = rest_within p _ next c.byte_end-next.ensures c.loop-p-test.true in
-    let told : c.agree_byte.result ≡ every (piece_agrees x.map.now x.buffer.now x.at x.piece.now) p (next - p) =
-    rest_agrees x.map.now x.buffer.now x.at x.piece.now p next (omega (arith, w)) w.1 c.agree_byte.result c.agree_byte.ensures in (
-      omega (arith, w),
-      omega (arith, w),
-      then_pass (piece_agrees x.map.now x.buffer.now x.at x.piece.now) x.at p next (omega (arith, w))
-          (sym told ∙ c.if-not-agree_byte.false) c.loop-p.invariant.2,
-    )
+    piece_told x.held.map.now x.held.buffer.now x.at x.piece.now _ c.byte_end-start.ensures (omega arith) _ c.split_at.ensures.front c.requires.buffered
+    false c.if-not-agree.ensures (length c.split_at.result.1.now) c.split_at.ensures.back_len _ refl
+
+pub returns-then-start-end : goal.returns-then-start-end
+returns-then-start-end c =
+    let x = c.args in
+    piece_told x.held.map.now x.held.buffer.now x.at x.piece.now _ c.byte_end-start.ensures (omega arith) _ c.split_at.ensures.front c.requires.buffered
+    true c.if-not-agree.ensures 0 (omega arith) true (sym (every_none (piece_agrees x.held.map.now x.held.buffer.now x.at x.piece.now) c.byte_end-start.result))
 
 pub returns : goal.returns
 returns c =
     let x = c.args in
-    sym
-    (all_if (piece_agrees x.map.now x.buffer.now x.at x.piece.now) x.at (length x.piece.now) (λ q l g. c.loop-p.invariant.2 q l (omega arith)))
+    let m = x.held.map.now in
+    let b = x.held.buffer.now in
+    let s = c.byte_end-start.result in
+    let w = ends m b x.at x.piece.now s c.byte_end-start.ensures (omega arith) in
+    piece_told m b x.at x.piece.now s c.byte_end-start.ensures (omega arith) _ c.split_at.ensures.front c.requires.buffered
+    true c.if-not-agree.ensures (length c.split_at.result.1.now) c.split_at.ensures.back_len c.agree-2.result
+    (c.agree-2.ensures
+    ∙ rest_behind m b x.at x.piece.now s c.byte_end-start.ensures (omega arith) (omega (arith, w)) _ _ _
+    (between_to_end m (s / 8) (length m) (omega arith)) (between_to_end b s (length b) (omega arith)) c.split_at.ensures.back (length c.split_at.result.1.now))

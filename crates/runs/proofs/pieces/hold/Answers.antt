@@ -1,36 +1,42 @@
--- `runs::pieces::hold` meets its contract: the positions so far are held, and those that were not are counted.
+-- `runs::pieces::hold` meets its contract: the first map byte, the whole ones so far, and the rest.
 -- Assumes nothing.
-use Rattle.std.proofs.Common.{◌≡◌, List, ℕ, ◌+◌, ◌-◌, true, arith}
-use Rattle.octets.specs.Numbers.{AllBytes}
-use Rattle.runs.specs.Inner.{span_at, MapRun}
-use Rattle.runs.proofs.MarkLaws.{run_none, run_most}
-use Rattle.runs.proofs.Steps.{span_fits, run_next}
+use Rattle.std.proofs.Common.{◌≡◌, ◌+◌, ◌-◌, ◌*◌, true, refl, arith}
+use Rattle.runs.proofs.MarkLaws.{run_none}
+use Rattle.runs.proofs.PieceSteps.{held_more, begun}
 use Rattle.runs.proofs.pieces.hold.Goals as goal
 
-none : (m : List ℕ) (at : ℕ) → AllBytes m → MapRun m (λ q. true) at (at - at) m 0
-none m at all = let e : at - at ≡ 0 = omega arith in rw e (run_none m (λ q. true) at all)
-
-pub loop-p-init : goal.loop-p-init
-loop-p-init c = (omega arith, omega arith, none c.args.map.now c.args.at (λ i. (c.type_inv.map i).fits))
+pub returns-then-at-end : goal.returns-then-at-end
+returns-then-at-end c =
+    let x = c.args in
+    let e : x.end - x.at ≡ 0 = omega arith in
+    rw e (run_none x.map.now (λ q. true) x.at (λ i. (c.type_inv.map i).fits))
 
 pub overflow_add-new : goal.overflow_add-new
 overflow_add-new c =
-    let s = c.args in
-    let d = c.loop-p in
-    let a = run_most s.map.now (λ q. true) s.at (d.p - s.at) d.map d.new d.invariant.2 in
-    let b = run_most d.map (λ q. true) d.p (span_at d.p (s.at + s.n)) _ _ c.hold_next-new.ensures in
-    let f = span_fits d.p (s.at + s.n) c.loop-p-test.true in
-    omega (arith, a, b, f)
+    let x = c.args in
+    let d = c.loop-i in
+    let w = begun x.at x.end _ d.i c.byte_end-start.ensures (omega arith) c.if-start-end.false d.auto.i in
+    let more = held_more x.map.now x.at d.i d.map d.new d.invariant w.0 (d.i * 8) _ ((d.i + 1) * 8) refl (omega arith) _ _ c.hold_byte-new-in-loop-i.ensures in
+    omega (arith, more.1)
 
-pub loop-p-preserved : goal.loop-p-preserved
-loop-p-preserved c =
-    let s = c.args in
-    let d = c.loop-p in
-    let h = c.hold_next-new in
-    let e = c.span-p.ensures in
-    let f = span_fits d.p (s.at + s.n) c.loop-p-test.true in (
-      omega (arith, e, f),
-      omega (arith, e, f),
-      rw e
-          (run_next s.map.now (λ q. true) s.at d.p d.map d.new (span_at d.p (s.at + s.n)) _ h.result d.invariant.0 d.invariant.2 h.ensures),
-    )
+pub loop-i-preserved : goal.loop-i-preserved
+loop-i-preserved c =
+    let x = c.args in
+    let d = c.loop-i in
+    let w = begun x.at x.end _ d.i c.byte_end-start.ensures (omega arith) c.if-start-end.false d.auto.i in
+    (held_more x.map.now x.at d.i d.map d.new d.invariant w.0 (d.i * 8) _ ((d.i + 1) * 8) refl (omega arith) _ _ c.hold_byte-new-in-loop-i.ensures).0
+
+pub overflow_add-result : goal.overflow_add-result
+overflow_add-result c =
+    let x = c.args in
+    let d = c.loop-i in
+    let w = begun x.at x.end _ d.i c.byte_end-start.ensures (omega arith) c.if-start-end.false d.auto.i in
+    let all = held_more x.map.now x.at d.i d.map d.new d.invariant w.0 _ _ x.end (omega (arith, w)) (omega arith) _ _ c.hold_byte.ensures in
+    omega (arith, all.1)
+
+pub returns : goal.returns
+returns c =
+    let x = c.args in
+    let d = c.loop-i in
+    let w = begun x.at x.end _ d.i c.byte_end-start.ensures (omega arith) c.if-start-end.false d.auto.i in
+    (held_more x.map.now x.at d.i d.map d.new d.invariant w.0 _ _ x.end (omega (arith, w)) (omega arith) _ _ c.hold_byte.ensures).0
