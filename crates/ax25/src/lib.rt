@@ -4,6 +4,8 @@
 // order. That each reason is given exactly when it is first is in `proofs/InOrder.antt`; that what is
 // written is read back, and what is accepted is what writing gives, in `proofs/RoundTrip.antt`. Laws
 // for callers are in `proofs/SpellingLaws.antt`, `proofs/HeadLaws.antt` and `proofs/WriteLaws.antt`.
+//
+// Kept: a slice and a place in it are two parameters, as in `octets`.
 #![tactic(auto)]
 
 mod spelling;
@@ -23,7 +25,7 @@ pub const MOST_INFORMATION: usize = 255;
 pub const CONTROL: u8 = 0x03;
 
 // The protocols: of file pieces and fill requests, and of directory entries.
-// Kept: bytes and no enum, since reading and writing a head take every byte as the protocol that they are to find or to write.
+// Kept: bytes and no enum, since `read_head` and `write_head` take every byte as the protocol that they are to find or to write.
 pub const FILE_PROTOCOL: u8 = 0xBB;
 
 pub const DIRECTORY_PROTOCOL: u8 = 0xBD;

@@ -34,7 +34,7 @@ const CHECK_LENGTH: usize = 2;
 
 // A file piece's fields: both addresses, the file's number and type, and the place of the piece's first
 // byte in the file.
-// Kept: the type is a byte, since every byte is one that a file can have.
+// Kept: the type is a byte, since `read_piece` accepts every byte there.
 #[derive(Clone, Copy, Debug, PartialEq, Eq)]
 pub struct Piece {
     pub head: Head,

@@ -70,7 +70,7 @@ pub struct Cursor {
 
 // What a step finds: an item, and the cursor behind it; the end item, and the cursor behind it; or
 // no whole item of a length that its id allows.
-// Kept beside `Option`: it has three cases.
+// Kept beside `Option`: `None` would be both that the items end and that they break off.
 #[derive(Clone, Copy, Debug, PartialEq, Eq)]
 pub enum Step {
     Found(Item, Cursor),
@@ -89,7 +89,7 @@ pub struct Pair {
 // extension, its length with its header, the times of its creation and last modification, whether an upset
 // was detected, its type, the sums of body and header, where the body starts, and the upload time; and
 // how many bytes the header itself has.
-// Kept: the upset and the type are bytes, since every byte is one that a header can have there.
+// Kept: the upset and the type are bytes, since `read_header` accepts every byte there.
 #[derive(Clone, Copy, Debug, PartialEq, Eq)]
 pub struct Header {
     pub number: u32,

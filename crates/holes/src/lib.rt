@@ -3,6 +3,8 @@
 // Listing answers a hole, or one numbered reason in the order that its comment gives, and changes nothing. Its
 // contract cites `specs/Listing.antt`; what a hole is stands in `specs/Holes.antt`, that every hole is listed
 // once in `proofs/HoleLaws.antt`.
+//
+// Kept: a map and a place are two parameters, since the one is what is held and the other what is asked.
 #![tactic(auto)]
 
 ghost use Rattle.std.specs.Prelude.{◌≡◌, not, ◌&&◌};

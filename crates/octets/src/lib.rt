@@ -5,6 +5,8 @@
 // run that does not fit is not written. Its contracts cite `specs/Numbers.antt`, `specs/Values.antt` and
 // `specs/Runs.antt`; callers' proofs use the laws of `proofs/NumberLaws.antt`, `proofs/ValueLaws.antt` and
 // `proofs/RunLaws.antt`.
+//
+// Kept: a slice and a place in it are two parameters, as in the standard library; a value of both would be made anew for each call.
 #![tactic(auto)]
 
 ghost use Rattle.std.specs.Prelude.{◌≡◌, ◌<◌, ◌^◌, min};

@@ -14,17 +14,23 @@ const TWO: [u8; 7] = [0x82, 0x62, 0x40, 0x40, 0x40, 0x40, 0x61];
 
 const ONE: [u8; 7] = [0x82, 0x40, 0x40, 0x40, 0x40, 0x40, 0x61];
 
-fn main(rt: HostRuntime) -> io::Result<()> {
+fn main(rt: HostRuntime) {
+    // Where standard output is closed there is nobody to tell.
+    let _ = all(&rt);
+}
+
+// All lines, in their order.
+fn all(rt: &impl Print) -> io::Result<()> {
     for (name, bytes) in [("UOSAT5-11", SIX), ("A1-0", TWO), ("A-0", ONE)] {
         for at in 0..6 {
             print!(rt; "{name} character {at}:")?;
-            values(&rt, bytes, at, Role::Source)?;
+            values(rt, bytes, at, Role::Source)?;
         }
     }
     print!(rt; "SSID of a destination:")?;
-    values(&rt, SIX, 6, Role::Destination)?;
+    values(rt, SIX, 6, Role::Destination)?;
     print!(rt; "SSID of a source:")?;
-    values(&rt, SIX, 6, Role::Source)
+    values(rt, SIX, 6, Role::Source)
 }
 
 // The rest of a line: the byte values that are accepted at a place.

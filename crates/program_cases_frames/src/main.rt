@@ -13,10 +13,11 @@ mod takes;
 
 use program_tools::cases;
 use program_tools::cases::Case;
+use program_tools::ending::ended;
 use std::io;
 
 fn main(rt: HostRuntime) -> io::Result<()> {
-    cases::run(&rt, answer)
+    ended(cases::run(&rt, answer))
 }
 
 // What the operation of a case answers: four numbers, the reason, 0 where it accepts, and three more.

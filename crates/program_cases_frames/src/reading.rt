@@ -6,6 +6,7 @@ use program_tools::cases::{Case, UNTOLD};
 const UNTOLD_PIECE: [u64; 7] = [0x63000000000000, 0x63000000000000, 99, 99, 99, 99, 99];
 
 // What the station tells of an entry: the reason, its numbers, and those of its header.
+// Kept: the reason is a number, as the functions for C, which are tried here, return it.
 #[derive(Clone, Copy, Debug, PartialEq, Eq)]
 struct Told {
     reason: u8,
@@ -64,7 +65,7 @@ pub(crate) fn header_read(case: &Case) -> [u32; 4] {
     three(told.reason, told.header[2], told.header[9], told.header[10])
 }
 
-// A reason and the lowest four bytes of three numbers.
+// A reason, as a function for C returns it, and the lowest four bytes of three numbers.
 pub(crate) fn three(reason: u8, a: u64, b: u64, c: u64) -> [u32; 4] {
     [u32::from(reason), word(a), word(b), word(c)]
 }

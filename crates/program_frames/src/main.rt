@@ -15,24 +15,30 @@ mod lengths;
 mod places;
 
 use kinds::Kind;
+use program_tools::ending::ended;
+use std::alloc::Global;
 use std::io;
 
 fn main(rt: HostRuntime) -> io::Result<()> {
-    let alloc = rt.alloc();
+    ended(all(&rt, rt.alloc()))
+}
+
+// All lines, in their order.
+fn all(rt: &impl Print, alloc: Global) -> io::Result<()> {
     for kind in Kind::ALL {
-        lengths::all(&rt, alloc, kind)?;
+        lengths::all(rt, alloc, kind)?;
     }
-    places::all(&rt, alloc)?;
+    places::all(rt, alloc)?;
     for kind in Kind::ALL {
-        flags::all(&rt, alloc, kind)?;
-    }
-    for kind in Kind::ALL {
-        faults::pairs(&rt, alloc, kind)?;
+        flags::all(rt, alloc, kind)?;
     }
     for kind in Kind::ALL {
-        faults::heads(&rt, alloc, kind)?;
+        faults::pairs(rt, alloc, kind)?;
     }
-    handed::pieces(&rt, alloc)?;
-    handed::entries(&rt, alloc)?;
-    handed::fields(&rt, alloc)
+    for kind in Kind::ALL {
+        faults::heads(rt, alloc, kind)?;
+    }
+    handed::pieces(rt, alloc)?;
+    handed::entries(rt, alloc)?;
+    handed::fields(rt, alloc)
 }

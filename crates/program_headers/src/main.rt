@@ -11,15 +11,22 @@ mod items;
 mod lengths;
 mod rules;
 
+use program_tools::ending::ended;
+use std::alloc::Global;
 use std::io;
 
 fn main(rt: HostRuntime) -> io::Result<()> {
+    ended(all(&rt, rt.alloc()))
+}
+
+// All lines, in their order.
+fn all(rt: &impl Print, alloc: Global) -> io::Result<()> {
     println!(rt; "Rules of a header")?;
-    rules::all(&rt, rt.alloc())?;
+    rules::all(rt, alloc)?;
     println!(rt; "Bytes behind a header")?;
-    lengths::longer(&rt, rt.alloc())?;
+    lengths::longer(rt, alloc)?;
     println!(rt; "A header cut to its first bytes")?;
-    lengths::cut(&rt)?;
+    lengths::cut(rt)?;
     println!(rt; "Items' bytes")?;
-    data::all(&rt, rt.alloc())
+    data::all(rt, alloc)
 }

@@ -1,4 +1,5 @@
 // The hole program, on no input at all.
+// Kept as a program of its own, since a crate has one stored input.
 #![tactic(auto)]
 
 fn main(rt: HostRuntime) {

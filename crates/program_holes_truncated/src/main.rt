@@ -1,4 +1,5 @@
 // The hole program, on the record of 01's example without its last byte.
+// Kept as a program of its own, since a crate has one stored input.
 #![tactic(auto)]
 
 fn main(rt: HostRuntime) {

@@ -16,13 +16,20 @@ mod sequences;
 mod spaces;
 mod takes;
 
+use program_tools::ending::ended;
+use std::alloc::Global;
 use std::io;
 
 fn main(rt: HostRuntime) -> io::Result<()> {
-    opens::all(&rt, rt.alloc())?;
-    faults::all(&rt, rt.alloc())?;
-    join_faults::all(&rt, rt.alloc())?;
-    joins::all(&rt, rt.alloc())?;
-    all_holes::all(&rt, rt.alloc())?;
-    lists::all(&rt, rt.alloc())
+    ended(all(&rt, rt.alloc()))
+}
+
+// All lines, in their order.
+fn all(rt: &impl Print, alloc: Global) -> io::Result<()> {
+    opens::all(rt, alloc)?;
+    faults::all(rt, alloc)?;
+    join_faults::all(rt, alloc)?;
+    joins::all(rt, alloc)?;
+    all_holes::all(rt, alloc)?;
+    lists::all(rt, alloc)
 }

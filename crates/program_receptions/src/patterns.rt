@@ -69,6 +69,7 @@ impl fmt::Display for Pattern {
 }
 
 // The byte of the made-up file at a position.
+// Kept: a remainder and a cast, since this is the file's rule and no conversion.
 pub(crate) fn file_byte(p: u32) -> u8 {
     let p = u64::from(p);
     ((p * 37 + p / 256 * 11 + 5) % 256) as u8
@@ -104,6 +105,7 @@ pub(crate) fn buffer(
 }
 
 // So many bytes of the map of a reception of a length, with its spare bits set or clear.
+// Kept: `set` is a flag, here and in `all_holes`, `joins` and `sequences`, since it says no more than whether bits are set.
 pub(crate) fn map(
     alloc: Global,
     size: u32,

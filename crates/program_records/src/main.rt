@@ -11,14 +11,21 @@ mod maps;
 mod saves;
 mod spaces;
 
+use program_tools::ending::ended;
+use std::alloc::Global;
 use std::io;
 
 fn main(rt: HostRuntime) -> io::Result<()> {
-    saves::faults(&rt, rt.alloc())?;
-    saves::rounds(&rt, rt.alloc())?;
-    changes::cuts(&rt, rt.alloc())?;
-    changes::bytes(&rt, rt.alloc())?;
-    changes::numbers(&rt, rt.alloc())?;
-    changes::exchanged(&rt, rt.alloc())?;
-    maps::all(&rt)
+    ended(all(&rt, rt.alloc()))
+}
+
+// All lines, in their order.
+fn all(rt: &impl Print, alloc: Global) -> io::Result<()> {
+    saves::faults(rt, alloc)?;
+    saves::rounds(rt, alloc)?;
+    changes::cuts(rt, alloc)?;
+    changes::bytes(rt, alloc)?;
+    changes::numbers(rt, alloc)?;
+    changes::exchanged(rt, alloc)?;
+    maps::all(rt)
 }

@@ -70,6 +70,7 @@ impl Space {
 }
 
 // A reception: its file, its pattern, and whether its spare bits are set.
+// Kept: `set` is a flag, since it says no more than whether spare bits are set.
 #[derive(Clone, Copy, Debug, PartialEq, Eq)]
 pub(crate) struct Held {
     pub(crate) file: File,
@@ -132,6 +133,7 @@ impl Held {
 }
 
 // The byte of the made-up file at a position: ABCDEFGHEF and on.
+// Kept: a remainder and a cast, since this is the file's rule and no conversion.
 fn file_byte(p: u32) -> u8 {
     let p = u64::from(p);
     ((p % 8 + p / 8 * 4 + p / 16 * 37 + p / 256 * 11 + 65) % 256) as u8

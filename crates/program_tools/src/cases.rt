@@ -23,6 +23,7 @@ ghost use Rattle.std.specs.Prelude.{◌≡◌, ◌+◌, ◌%◌, slice_index, ta
 ghost use Rattle.program_tools.specs.Made.{changes_of, left_of};
 ghost use Rattle.program_tools.specs.Cases.{start, next_of, name_of, number_of, ended_of, cell_of, is_shown, answered_of};
 
+use crate::ending::ended;
 use crate::made;
 use std::io;
 use std::io::Read;
@@ -253,7 +254,7 @@ where
     requires { F.IsAlwaysCallable operation }
 {
     let mut text = Vec::new(rt.alloc());
-    rt.reader().take(SPACE).read_to_end(&mut text)?;
+    ended(rt.reader().take(SPACE).read_to_end(&mut text).map(|_| ()))?;
     let tally = read(rt, &text, operation)?;
     if text.len() as u64 == SPACE {
         println!(rt; "the text is too long: its end was not read")?;

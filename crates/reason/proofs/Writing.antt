@@ -31,6 +31,11 @@ pub when_refused : (lent : List ℕ) (made : Answer (List ℕ)) (r : Result Unit
 when_refused lent made r left reason w e =
     only_one_written lent made r (Err reason) left lent w (writes_refused lent made lent reason e refl)
 
+-- .. and a refusal, whatever its number, leaves every byte
+pub refusal_leaves : (lent : List ℕ) (made : Answer (List ℕ)) (r : Result Unit Reason) (left : List ℕ) (n : ℕ) → Writes lent made r left
+    → made ≡ refused n → left ≡ lent
+refusal_leaves lent made r left n w e = w.bytes ∙ ap (leaving (λ (x : List ℕ). x) lent) e
+
 -- the promise of a writer that tells values, where its answer is known
 module _ {A : Type 0} (lent : List ℕ) (answer : Answer A) (made : A → List ℕ) (left : List ℕ) where
   pub tells_refused : (n : ℕ) → answer ≡ refused n → left ≡ lent → WritesAndTells lent answer made (refused n) left

@@ -11,9 +11,6 @@
 ghost use Rattle.std.specs.Prelude.{◌≡◌};
 ghost use Rattle.reason.specs.Reasons.{number_of};
 
-use std::error::Error;
-use std::fmt;
-
 // Why an operation refused: one of the fifteen reasons of 01, in the order of their numbers. A refusal gives
 // the first that holds in the operation's order, and has changed nothing.
 #[derive(Clone, Copy, Debug, PartialEq, Eq, PartialOrd, Ord, Hash)]
@@ -58,28 +55,3 @@ impl From<Reason> for u8 {
         reason as u8
     }
 }
-
-// The reason in words.
-impl fmt::Display for Reason {
-    fn fmt<W: fmt::Write>(&self, f: &mut fmt::Formatter<W>) -> fmt::Result {
-        f.write_str(match self {
-            Reason::Short => "the frame or its information is too short",
-            Reason::Address => "an address is malformed",
-            Reason::Control => "the control byte is not 0x03",
-            Reason::Protocol => "the protocol is not the one that is read",
-            Reason::Flags => "the flags are not allowed",
-            Reason::Check => "the check bytes are not the remainder",
-            Reason::Size => "a size is wrong",
-            Reason::Header => "the file header breaks a rule",
-            Reason::OtherFile => "it is another file's",
-            Reason::Beyond => "it ends beyond the file",
-            Reason::Differs => "a byte that is held already differs",
-            Reason::Space => "the lent space is too short",
-            Reason::Record => "the record is malformed",
-            Reason::NotWhole => "the header is not whole",
-            Reason::NoHole => "no hole starts there or later",
-        })
-    }
-}
-
-impl Error for Reason {}

@@ -112,6 +112,7 @@ pub fn join(file: File, map: &mut [u8], buffer: &mut [u8], second: Reception) ->
 
 // Whether a position of a file of a length is held. A position that is not below the length, or beyond
 // the lent map, is not.
+// Kept: length and map are two parameters, here and in `count_held`, since C hands them over as they are.
 pub fn is_held(length: u32, map: &[u8], position: u32) -> bool
     ensures { result ≡ held_of length map.now position }
 {

@@ -1,4 +1,6 @@
 // The length of a file and the space that is lent for it.
+//
+// Kept: the length and each space are parameters of their own, since 7 is about the first alone and 12 about one space or both.
 ghost use Rattle.std.specs.Prelude.{◌≡◌, ◌≤◌, length};
 ghost use Rattle.reason.specs.Answer.{answer_of};
 ghost use Rattle.positions.specs.Map.{map_size};

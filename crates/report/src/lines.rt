@@ -1,4 +1,6 @@
 // The lines of the text.
+//
+// Kept: the text and the place where it goes on are two parameters, since each writer answers the next place.
 ghost use Rattle.std.specs.Prelude.{◌≡◌, false, ◌+◌, ◌≤◌, length};
 ghost use Rattle.reason.specs.Reasons.{number_of};
 ghost use Rattle.octets.specs.Runs.{put_in};

@@ -6,7 +6,8 @@
 // false, and those that write change nothing and answer 0. The contracts cite `specs/Offers.antt`.
 //
 // Kept: a map and a buffer that are written are two parameters, since a struct of two `&mut` needs a clause in every
-// contract that each is the same reference still.
+// contract that each is the same reference still. So are a piece and its place, and a reception and how many of its positions are
+// asked: a value of both would be made in the one line that calls and taken apart in the first that is called.
 #![tactic(auto)]
 
 mod eights;

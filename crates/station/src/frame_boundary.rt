@@ -4,6 +4,7 @@
 // `told` has the fields of a frame in the order of their bytes, and `values` those of a file header in the order of
 // its items' ids. An address is one number (`addresses.rt`), and so are a name and an extension, of their bytes, least
 // significant byte first. The contracts cite `specs/FrameExports.antt`.
+// Kept: a number is returned and the parameters are flat, since C calls each of these through `station_c`.
 ghost use Rattle.std.specs.Prelude.{◌≡◌};
 ghost use Rattle.station.specs.FrameExports.{PieceOut, EntryOut, HeaderOut, header_numbers};
 

@@ -2,6 +2,7 @@
 //
 // A function returns and tells as those of `boundary.rt` and `frame_boundary.rt` do; an address is one number
 // (`addresses.rt`). The contracts cite `specs/RequestExports.antt`.
+// Kept: a number is returned and the parameters are flat, since C calls each of these through `station_c`.
 ghost use Rattle.std.specs.Prelude.{◌≡◌};
 ghost use Rattle.station.specs.RequestExports.{head_told, FillsOut, StartsOut, RequestOut, HoleOut};
 
