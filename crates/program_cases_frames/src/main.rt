@@ -12,24 +12,28 @@ mod requests;
 mod takes;
 
 use program_tools::cases;
-use program_tools::cases::Case;
+use program_tools::cases::{Case, Operation};
 use program_tools::ending::ended;
 use std::io;
 
 fn main(rt: HostRuntime) -> io::Result<()> {
-    ended(cases::run(&rt, answer))
+    ended(cases::run(&rt, &Station))
 }
 
-// What the operation of a case answers: four numbers, the reason, 0 where it accepts, and three more.
-fn answer(case: &Case) -> [u32; 4] {
-    match case.operation() {
-        1 => takes::taken(case),
-        8 => requests::read(case),
-        9 => requests::hole_read(case),
-        10 => reading::piece_read(case),
-        11 => reading::entry_read(case),
-        13 => reading::entry_stations(case),
-        14 => requests::stations_read(case),
-        _ => reading::header_read(case),
+// The station, by which the cases are run.
+struct Station;
+
+impl Operation for Station {
+    fn answer(&self, case: &Case) -> [u32; 4] {
+        match case.operation() {
+            1 => takes::taken(case),
+            8 => requests::read(case),
+            9 => requests::hole_read(case),
+            10 => reading::piece_read(case),
+            11 => reading::entry_read(case),
+            13 => reading::entry_stations(case),
+            14 => requests::stations_read(case),
+            _ => reading::header_read(case),
+        }
     }
 }

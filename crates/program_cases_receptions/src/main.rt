@@ -11,23 +11,27 @@ mod records;
 mod requests;
 
 use program_tools::cases;
-use program_tools::cases::Case;
+use program_tools::cases::{Case, Operation};
 use program_tools::ending::ended;
 use std::io;
 
 fn main(rt: HostRuntime) -> io::Result<()> {
-    ended(cases::run(&rt, answer))
+    ended(cases::run(&rt, &Station))
 }
 
-// What the operation of a case answers: four numbers, the reason, 0 where it accepts, and three more.
-fn answer(case: &Case) -> [u32; 4] {
-    match case.operation() {
-        0 => receptions::opened(case),
-        2 => receptions::joined(case),
-        3 => receptions::listed(case),
-        4 => records::saved(case),
-        5 => records::loaded(case),
-        6 => requests::written(case),
-        _ => requests::started(case),
+// The station, by which the cases are run.
+struct Station;
+
+impl Operation for Station {
+    fn answer(&self, case: &Case) -> [u32; 4] {
+        match case.operation() {
+            0 => receptions::opened(case),
+            2 => receptions::joined(case),
+            3 => receptions::listed(case),
+            4 => records::saved(case),
+            5 => records::loaded(case),
+            6 => requests::written(case),
+            _ => requests::started(case),
+        }
     }
 }

@@ -245,13 +245,18 @@ fn cell_of(letter: u8, cell: usize) -> usize
     }
 }
 
+// What a program runs its cases by. A trait and no closure, since of a closure `run` would have to ask that it may be called.
+pub trait Operation {
+    // What the operation of a case answers: four numbers, the reason, 0 where it accepts, and three more.
+    fn answer(&self, case: &Case) -> [u32; 4];
+}
+
 // Runs the cases whose lines stand on standard input, and prints a line for each, and at the end how many there were and how
 // many differ.
-pub fn run<R, F>(rt: &R, operation: F) -> io::Result<()>
+pub fn run<R, O>(rt: &R, operation: &O) -> io::Result<()>
 where
     R: Print + Input + AllocGlobal,
-    F: Fn(&Case) -> [u32; 4],
-    requires { F.IsAlwaysCallable operation }
+    O: Operation,
 {
     let mut text = Vec::new(rt.alloc());
     ended(rt.reader().take(SPACE).read_to_end(&mut text).map(|_| ()))?;
@@ -264,11 +269,10 @@ where
 
 // Reads lines, and runs their cases.
 // Kept: letter by letter, since a last line without its end is not run, and a byte that is no text is printed as it is (`next_of`).
-fn read<R, F>(rt: &R, text: &[u8], operation: F) -> io::Result<Tally>
+fn read<R, O>(rt: &R, text: &[u8], operation: &O) -> io::Result<Tally>
 where
     R: Print,
-    F: Fn(&Case) -> [u32; 4],
-    requires { F.IsAlwaysCallable operation }
+    O: Operation,
 {
     let mut reading = Reading::new();
     for letter in text {
@@ -277,7 +281,7 @@ where
         }
         reading = reading.next(*letter);
         if reading.place == Place::Due {
-            let got = operation(&reading.case);
+            let got = operation.answer(&reading.case);
             tell(rt, reading.case.expected(), got)?;
             reading = reading.answered(got);
         }
@@ -299,12 +303,21 @@ mod tests {
     use super::*;
     use std::test::Fail;
 
+    // Answers the length of a case.
+    struct Length;
+
+    impl Operation for Length {
+        fn answer(&self, case: &Case) -> [u32; 4] {
+            [0, case.number(b'l'), 0, 0]
+        }
+    }
+
     // Two cases below a heading and the usual numbers, of which one differs; and what stands on standard input, which is nothing
     // where tests run.
     #[test]
     fn cases_are_counted(rt: HostRuntime) -> Result<(), Fail> {
         let text = b"Heading\n:l20=0 20;\nas expected:\nof another length:l7\n";
-        let tally = read(&rt, text, |case| [0, case.number(b'l'), 0, 0])?;
+        let tally = read(&rt, text, &Length)?;
         assert_eq!(rt;
             tally,
             Tally {
@@ -312,7 +325,7 @@ mod tests {
                 differ: 1
             }
         );
-        run(&rt, |case| case.expected())?;
+        run(&rt, &Length)?;
         Ok(())
     }
 }
