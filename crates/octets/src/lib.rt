@@ -9,10 +9,10 @@
 // Kept: a slice and a place in it are two parameters, as in the standard library; a value of both would be made anew for each call.
 #![tactic(auto)]
 
-ghost use Rattle.std.specs.Prelude.{◌≡◌, ◌<◌, ◌^◌, min};
+ghost use Rattle.std.specs.Prelude.{◌≡◌, ◌+◌, ◌≤◌, ◌<◌, ◌^◌, min, length};
 ghost use Rattle.octets.specs.Numbers.{byte_at, number_at, bytes_of};
 ghost use Rattle.octets.specs.Values.{values_from};
-ghost use Rattle.octets.specs.Runs.{Put};
+ghost use Rattle.octets.specs.Runs.{put_in, Put};
 
 // The byte of s at a place, 0 beyond the end of s.
 pub fn byte(s: &[u8], at: usize) -> u8
@@ -72,6 +72,18 @@ pub fn put(out: &mut [u8], at: usize, run: &[u8]) -> bool
     if out.len() < at || out.len() - at < run.len() {
         return false;
     }
-    out[at..at + run.len()].copy_from_slice(run);
+    store(out, at, run);
     true
+}
+
+// Writes all of a run, which fits, into out from a place on.
+// Kept: a byte at each turn, of which the compiler takes many at once. `copy_from_slice` calls `memmove`, which a program in C
+// would then have to bring beside what it brought before.
+fn store(out: &mut [u8], at: usize, run: &[u8])
+    requires { at + length run.now ≤ length out.old }
+    ensures { out.new ≡ put_in out.old at run.now }
+{
+    for (k, byte) in run.iter().enumerate() {
+        out[at + k] = *byte;
+    }
 }

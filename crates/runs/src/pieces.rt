@@ -76,6 +76,6 @@ pub(crate) fn write(map: &mut [u8], buffer: &mut [u8], at: usize, piece: &[u8]) 
     ensures buffer_after { buffer.new ≡ put_in buffer.old at piece.now }
 {
     let end = at + piece.len();
-    buffer[at..end].copy_from_slice(piece);
+    octets::put(buffer, at, piece);
     hold(map, at, end)
 }
