@@ -2,7 +2,7 @@
 -- an address say of each byte.
 -- Assumes nothing.
 use mathlib.Core.Path.{◌≡◌, refl, sym, ap, ◌∙◌}
-use mathlib.Core.Bool.{Bool, true, false}
+use mathlib.Core.Bool.{Bool, true, false, ◌&&◌}
 use mathlib.Core.Logic.{⊎_elim}
 use mathlib.Core.List.{List, [], ◌∷◌, map}
 use Prim.Native.Nat.{ℕ, zero, suc, ◌+◌, ◌*◌, ◌/◌, ◌%◌, ◌≤◌, ◌<◌}
@@ -90,6 +90,16 @@ each_of_six p f i zero k e h = absurd (omega arith)
 each_of_six p f i (suc n) zero e h = ap (λ (j : ℕ). p (f j)) (add-zero i) ∙ and_left (p (f i)) _ e
 each_of_six p f i (suc n) (suc k) e h =
     ap (λ (j : ℕ). p (f j)) (omega arith) ∙ each_of_six p f (suc i) n k (and_right (p (f i)) (list_all p (values_from f (suc i) n)) e) (omega arith)
+
+-- six tests that all hold, each of them
+six : (b0 b1 b2 b3 b4 b5 : Bool) → (b0 && b1 && b2 && b3 && b4 && b5) ≡ true
+    → (b0 ≡ true) × (b1 ≡ true) × (b2 ≡ true) × (b3 ≡ true) × (b4 ≡ true) × (b5 ≡ true)
+six b0 b1 b2 b3 b4 b5 e5 =
+    let e4 = and_left (b0 && b1 && b2 && b3 && b4) b5 e5 in
+    let e3 = and_left (b0 && b1 && b2 && b3) b4 e4 in
+    let e2 = and_left (b0 && b1 && b2) b3 e3 in
+    let e1 = and_left (b0 && b1) b2 e2 in
+    (and_left b0 b1 e1, and_right b0 b1 e1, and_right (b0 && b1) b2 e2, and_right (b0 && b1 && b2) b3 e3, and_right (b0 && b1 && b2 && b3) b4 e4, and_right (b0 && b1 && b2 && b3 && b4) b5 e5)
 
 -- the bytes of an address: each of the first six is a character, shifted left by one
 shifted_byte : (role : Role) (a : Address) (k : ℕ) → k < 6 → byte_at (address_bytes role a) k ≡ byte_at (characters_of a) k * 2

@@ -7,7 +7,7 @@ use mathlib.Core.List.{List}
 use Prim.Native.Nat.{ℕ, zero, suc, ◌+◌, ◌-◌, ◌≤◌, ◌<◌}
 use native.Mathlib.Omega.{arith}
 use borrow.Author.Tests.{not-true, not-false}
-use Rattle.reason.proofs.Bools.{and_left, le_or_lt}
+use Rattle.reason.proofs.Bools.{le_or_lt}
 use Rattle.positions.specs.Spans.{first}
 use Rattle.positions.specs.Map.{held}
 use Rattle.positions.proofs.SpanLaws.{first_from, first_by, passed_over, found, first_is, first_skip, first_none}
@@ -72,11 +72,11 @@ module _ (m : List ℕ) where
       by false true none free = absurd (true≢false free)
       by false false none free = absurd (true≢false none)
 
-  pub start_after : (p n past : ℕ) → (not (held_before m p) && not (held m p)) ≡ true → past ≡ first (held m) p (n - p)
-      → (r : ℕ) → r ≡ first (λ q. not (held m q)) past (n - past) → r ≡ hole_start n m p
-  start_after p n past goes is r e =
+  pub start_after : (p n past : ℕ) → held_before m p ≡ false → past ≡ first (held m) p (n - p) → (r : ℕ)
+      → r ≡ first (λ q. not (held m q)) past (n - past) → r ≡ hole_start n m p
+  start_after p n past before is r e =
       e
-      ∙ sym (start_past p n (not-true (held_before m p) (and_left (not (held_before m p)) (not (held m p)) goes))
+      ∙ sym (start_past p n before
       ∙ ap (hole_start n m) (sym is)
       ∙ ⊎_elim
       (λ g. first_none (starts_hole m) past n g ∙ sym (first_none (λ q. not (held m q)) past n g))

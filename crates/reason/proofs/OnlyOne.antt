@@ -5,12 +5,17 @@ use mathlib.Core.List.{List}
 use Prim.Native.Nat.{ℕ}
 use Rattle.std.specs.Prelude.{Result, Ok, Err}
 use Rattle.reason.specs.declared.Reason.{Reason}
+use Rattle.reason.specs.Reasons.{number_of}
 use Rattle.reason.specs.Answer.{Answer, accepted, refused, answer_of, Writes, WritesAndTells}
 use Rattle.reason.proofs.Reasons.{reason_with, reason_back}
 
 -- two results that are both what a definition says are the same
 pub only_one : {A : Type 0} {v : A} (p q : A) → p ≡ v → q ≡ v → p ≡ q
 only_one p q d e = d ∙ sym e
+
+-- `u8::from` of a reason
+pub only_one_number : (reason : Reason) (n m : ℕ) → n ≡ number_of reason → m ≡ number_of reason → n ≡ m
+only_one_number reason n m = only_one n m
 
 -- Two answers whose meanings are both what a definition says are the same, where no two have one meaning: `case` gives
 -- each meaning's answer back.
@@ -27,6 +32,11 @@ result_back : {A : Type 0} (r : Result A Reason) → result_of (answer_of r) ≡
 unfolding result_of
 result_back (Ok a) = refl
 result_back (Err reason) = ap Err (reason_back reason)
+
+-- a result that means a refusal is the reason that has its number
+pub refused_back : {A : Type 0} (r : Result A Reason) (n : ℕ) → answer_of r ≡ refused n → r ≡ Err (reason_with n)
+unfolding result_of
+refused_back r n e = sym (result_back r) ∙ ap result_of e
 
 -- two results whose meanings are both what a definition says are the same
 pub only_one_answer : {A : Type 0} {v : Answer A} (r q : Result A Reason) → answer_of r ≡ v → answer_of q ≡ v → r ≡ q

@@ -7,7 +7,8 @@ use Rattle.std.specs.Prelude.{Result, Ok, Err}
 use Rattle.reason.specs.declared.Reason.{Reason}
 use Rattle.reason.specs.Reasons.{number_of}
 use Rattle.reason.specs.Answer.{Answer, accepted, refused, telling, leaving, answer_of, Writes, WritesAndTells}
-use Rattle.reason.proofs.OnlyOne.{only_one_written}
+use Rattle.reason.proofs.Reasons.{reason_with}
+use Rattle.reason.proofs.OnlyOne.{refused_back, only_one_written}
 
 module _ (lent : List ℕ) (made : Answer (List ℕ)) (left : List ℕ) where
   -- the promise, where what the operation makes is known: one law, and its two cases
@@ -26,9 +27,17 @@ pub when_accepted : (lent : List ℕ) (made : Answer (List ℕ)) (r : Result Uni
     → made ≡ accepted new → (r ≡ Ok tt) × (left ≡ new)
 when_accepted lent made r left new w e = only_one_written lent made r (Ok tt) left new w (writes_accepted lent made new new e refl)
 
-pub when_refused : (lent : List ℕ) (made : Answer (List ℕ)) (r : Result Unit Reason) (left : List ℕ) (reason : Reason)
+-- a refusal, whatever its number: the answer is the reason that has it, and every byte stays
+pub when_refused : (lent : List ℕ) (made : Answer (List ℕ)) (r : Result Unit Reason) (left : List ℕ) (n : ℕ) → Writes lent made r left
+    → made ≡ refused n → (r ≡ Err (reason_with n)) × (answer_of r ≡ refused n) × (left ≡ lent)
+when_refused lent made r left n w e =
+    let told : answer_of r ≡ refused n = w.answers ∙ ap (telling (λ (x : List ℕ). tt)) e in
+    (refused_back r n told, told, w.bytes ∙ ap (leaving (λ (x : List ℕ). x) lent) e)
+
+-- .. and where the reason is known that it is
+pub when_refused_for : (lent : List ℕ) (made : Answer (List ℕ)) (r : Result Unit Reason) (left : List ℕ) (reason : Reason)
     → Writes lent made r left → made ≡ refused (number_of reason) → (r ≡ Err reason) × (left ≡ lent)
-when_refused lent made r left reason w e =
+when_refused_for lent made r left reason w e =
     only_one_written lent made r (Err reason) left lent w (writes_refused lent made lent reason e refl)
 
 -- .. and a refusal, whatever its number, leaves every byte

@@ -5,10 +5,12 @@ use mathlib.Core.Path.{◌≡◌, refl, sym, ap, ap₂, ◌∙◌}
 use mathlib.Core.Bool.{Bool, true, false, cond, ◌&&◌, ◌||◌}
 use mathlib.Core.Logic.{⊎_elim}
 use mathlib.Core.List.{List, [], ◌∷◌}
-use Prim.Native.Nat.{ℕ, ◌+◌, ◌-◌, ◌/◌, ◌%◌, ◌≤◌, ◌<◌}
+use Prim.Native.Nat.{ℕ, ◌+◌, ◌-◌, ◌*◌, ◌/◌, ◌%◌, ◌≤◌, ◌<◌}
+use mir.Val.{bool_byte}
 use native.Mathlib.Nat.{zero-add}
 use native.Mathlib.Numerals.{unary_clauses}
 use native.Mathlib.Omega.{arith}
+use lib.Bits.{bit_and}
 use lib.Dec.{eqb}
 use lib.ListN.{length, set}
 use Rattle.reason.proofs.Bools.{le_or_lt}
@@ -20,9 +22,9 @@ use Rattle.octets.proofs.RunLaws.{put_nothing, put_values}
 use Rattle.positions.specs.Spans.{every}
 use Rattle.positions.specs.Map.{is_set, held}
 use Rattle.positions.proofs.SpanLaws.{all_if, all_at, every_more, every_same, part_fails}
-use Rattle.positions.proofs.MapLaws.{bit_of}
+use Rattle.positions.proofs.MapLaws.{bit_of, full_set}
 use Rattle.record.specs.Reading.{unheld_clear}
-use Rattle.record.proofs.PutLaws.{same_long, put_value}
+use Rattle.record.proofs.PutLaws.{same_long, put_value, masked}
 
 -- bit p - from of a map byte is set, or the byte of position p is zero
 abbrev pub clear_from : ℕ → List ℕ → ℕ → ℕ → Bool
@@ -52,6 +54,22 @@ pub eight_values : (f : ℕ → ℕ) (i a b c d e g h k : ℕ) → a ≡ f i →
 eight_values f i a b c d e g h k r0 r1 r2 r3 r4 r5 r6 r7 = rw (r0, r1, r2, r3, r4, r5, r6, r7) (simp unary_clauses refl)
 
 -- ---- the bytes of a map byte
+-- what masks a byte is a byte
+pub mask_most : (w : Bool) → 255 * bool_byte w < 256
+mask_most true = omega arith
+mask_most false = omega arith
+
+-- one byte, masked by its bit
+pub byte_masked : (b : ℕ) (d : List ℕ) (from p : ℕ) → byte_at d p < 256 → (w : Bool) → w ≡ is_set b (p - from)
+    → bit_and (byte_at d p) (255 * bool_byte w) ≡ saved_from b d from p
+byte_masked b d from p h w e = masked (byte_at d p) w h ∙ ap (λ (v : Bool). cond v (byte_at d p) 0) e
+
+-- those of a full byte are the bytes as they are
+pub full_saved : (b : ℕ) (d : List ℕ) (from : ℕ) → b ≡ 255 → values_from (byte_at d) from 8 ≡ values_from (saved_from b d from) from 8
+full_saved b d from e =
+    values_alike (byte_at d) (saved_from b d from) from 8
+    (λ p l h. sym (ap (λ (w : Bool). cond w (byte_at d p) 0) (full_set b (p - from) e (omega arith))))
+
 -- of the first n positions of a map byte, by their bits
 saved_byte : (m b : List ℕ) (from n : ℕ) → from % 8 ≡ 0 → n ≤ 8
     → values_from (saved_from (byte_at m (from / 8)) b from) from n ≡ values_from (λ p. cond (held m p) (byte_at b p) 0) from n
@@ -71,6 +89,10 @@ saved_run_more m b out at p so_far is a n few h after next =
     ∙ put_values (λ q. cond (held m q) (byte_at b q) 0) out at 0 p n h
 
 -- ---- unheld bytes
+-- of a full byte every position is held
+pub full_clear : (b : ℕ) (d : List ℕ) (from p : ℕ) → b ≡ 255 → p < from + 8 → clear_from b d from p ≡ true
+full_clear b d from p e h = ap (λ (w : Bool). w || eqb (byte_at d p) 0) (full_set b (p - from) e (omega arith))
+
 -- as a loop meets them: whether those so far are clear, and one more
 pub clear_more : (b : ℕ) (d : List ℕ) (from k : ℕ) (so_far here : Bool) → so_far ≡ every (clear_from b d from) from k → here ≡ clear_from b d from (from + k)
     → (so_far && here) ≡ every (clear_from b d from) from (k + 1)
