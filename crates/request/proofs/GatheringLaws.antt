@@ -89,6 +89,18 @@ module _ (l : ℕ) (map : List ℕ) (place : ℕ) (entries : List ℕ) (room : m
     pub no_more : (n : ℕ) → listing l map end ≡ refused n → (count ≡ 0 → ⊥) → Gathered l map place entries (record { count = count; end = end }) so_far
     no_more n e some = finished some (listed_none l map end (most_holes - count) n e)
 
+    -- nothing is listed at all: so it is from the place on, and no byte has changed
+    pub none_listed : (n : ℕ) → listing l map end ≡ refused n → count ≡ 0 → (listing l map place ≡ refused n) × (so_far ≡ entries)
+    none_listed n e z =
+        let here : listing l map place ≡ refused n = sym (ap (listing l map) (s.none_yet z)) ∙ e in (
+          here,
+          sym (put_nothing so_far (count * bytes_per_hole))
+              ∙ sym (ap (λ (holes : List Hole). put_in so_far (count * bytes_per_hole) (holes_bytes holes)) (listed_none l map end (most_holes - count) n e))
+              ∙ s.bytes
+              ∙ ap (λ (holes : List Hole). put_in entries 0 (holes_bytes holes)) (listed_none l map place most_holes n here)
+              ∙ put_nothing entries 0,
+        )
+
     pub all_listed : most_holes ≤ count → Gathered l map place entries (record { count = most_holes; end = end }) so_far
     all_listed h =
         let z : most_holes - count ≡ 0 = omega arith in

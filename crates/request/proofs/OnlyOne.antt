@@ -10,9 +10,11 @@ use Rattle.reason.proofs.OnlyOne.{only_one, only_one_answer, only_one_written, o
 use Rattle.octets.specs.Runs.{put_in}
 use Rattle.ax25.specs.declared.Head.{Head}
 use Rattle.holes.specs.declared.Hole.{Hole}
+use Rattle.request.specs.declared.Asks.{Asks}
 use Rattle.request.specs.declared.Request.{Request}
 use Rattle.request.specs.declared.Written.{Written}
-use Rattle.request.specs.Reading.{read_request, hole_read, hole_at}
+use Rattle.request.specs.Request.{flags_of}
+use Rattle.request.specs.Reading.{AsksBy, read_request, hole_read, hole_at}
 use Rattle.request.specs.Writing.{Wanted, filling, fill_frame, Fills, starting}
 
 -- `write_fill`
@@ -30,6 +32,13 @@ only_one_start head number target r q left also d e = only_one_written target (s
 -- `read_request`
 pub only_one_read : (frame : List ℕ) (r q : Result Request Reason) → answer_of r ≡ read_request frame → answer_of q ≡ read_request frame → r ≡ q
 only_one_read frame r q = only_one_answer r q
+
+-- `Asks::try_from`, and `u8::from` of what is asked for
+pub only_one_asks : (flags : ℕ) (r q : Result Asks Reason) → AsksBy flags r → AsksBy flags q → r ≡ q
+only_one_asks flags r q = only_one_answer r q
+
+pub only_one_flags : (asks : Asks) (r q : ℕ) → r ≡ flags_of asks → q ≡ flags_of asks → r ≡ q
+only_one_flags asks r q = only_one r q
 
 -- `hole_at` and `hole_of`
 pub only_one_hole_at : (frame : List ℕ) (index : ℕ) (r q : Hole) → r ≡ hole_at frame index → q ≡ hole_at frame index → r ≡ q

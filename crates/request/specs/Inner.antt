@@ -17,7 +17,7 @@ pub record Gathered (l : ℕ) (map : List ℕ) (place : ℕ) (entries : List ℕ
   pub ended : x.end ≡ last_end place (listed_from most_holes l map place)
   pub bytes : entries' ≡ put_in entries 0 (holes_bytes (listed_from most_holes l map place))
 
--- What gathering promises: the holes that there are, or where there is none, the reason of listing one.
+-- What gathering promises: the holes that there are, or where there is none, the reason of listing one, and then no byte has changed.
 abbrev pub Gathers : ℕ → List ℕ → ℕ → List ℕ → Result Written Reason → List ℕ → Type 0
 Gathers l map place entries (Ok x) entries' = Gathered l map place entries x entries'
-Gathers l map place entries (Err reason) entries' = listing l map place ≡ refused (number_of reason)
+Gathers l map place entries (Err reason) entries' = (listing l map place ≡ refused (number_of reason)) × (entries' ≡ entries)

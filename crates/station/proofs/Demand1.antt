@@ -1,7 +1,7 @@
 -- The first demand, proved: one law for all operations, and for each the theorem of its order in its own crate.
 -- Assumes nothing.
 use mathlib.Core.Path.{◌≡◌, refl, sym, ap, ap₂, ◌∙◌}
-use mathlib.Core.Bool.{Bool, true, ◌&&◌}
+use mathlib.Core.Bool.{Bool, true, not, ◌&&◌}
 use mathlib.Core.Logic.{◌⊎◌, inl, inr}
 use mathlib.Core.List.{List, [], ◌∷◌}
 use Prim.Native.Nat.{ℕ, ◌≤◌}
@@ -32,9 +32,9 @@ use Rattle.holes.specs.Listing.{listing}
 use Rattle.reception.proofs.InOrder as piece
 use Rattle.reception.proofs.InOrder.{open_in_order, join_in_order}
 use Rattle.holes.proofs.InOrder.{list_in_order}
-use Rattle.request.specs.Reading.{request_checks, read_request}
+use Rattle.request.specs.Reading.{flags_allowed, asks_by, request_checks, read_request}
 use Rattle.request.specs.Writing.{filling, starting}
-use Rattle.request.proofs.InOrder.{read_request_in_order, write_fill_in_order, write_start_in_order}
+use Rattle.request.proofs.InOrder.{read_request_in_order, read_flags_in_order, write_fill_in_order, write_start_in_order}
 use Rattle.record.specs.Saving.{saving}
 use Rattle.record.specs.Reading.{read_record}
 use Rattle.record.specs.Loading.{loading, loaded_map, loaded_buffer}
@@ -162,6 +162,7 @@ demand_1 = record {
   reads_piece = λ frame. reads _ _ (read_piece frame) refl (read_piece_in_order frame);
   reads_entry = λ frame. reads _ _ (read_entry frame) refl (read_entry_in_order frame);
   reads_request = λ frame. reads _ _ (read_request frame) refl (read_request_in_order frame);
+  reads_flags = λ flags. reads _ _ (first_of (check (not (flags_allowed flags)) 5 ∷ []) (asks_by flags)) refl (read_flags_in_order flags);
   takes = λ number l lent frame. let s = reception_in number l lent in adds number l lent _ _ _ (taking_frame s frame) refl (take_in_order s frame);
   takes_piece = λ number l lent x. let s = reception_in number l lent in adds number l lent _ _ _ (taking s x) refl (piece.take_in_order s x);
   opens = λ l lent. let answer = opening l lent.map lent.buffer in

@@ -21,7 +21,7 @@ use Rattle.reception.specs.Joining.{joining_checks, joined_new, Joins}
 use Rattle.holes.specs.Holes.{hole_from}
 use Rattle.holes.specs.Listing.{listing_checks, listing}
 use Rattle.holes.specs.EveryHole.{last_end}
-use Rattle.request.specs.Reading.{request_order, request_of, read_request}
+use Rattle.request.specs.Reading.{flags_allowed, asks_by, AsksBy, request_order, request_of, read_request}
 use Rattle.request.specs.Writing.{Wanted, holes_from, fill_checks, Fills, start_checks, starting}
 use Rattle.record.specs.Record.{record_length}
 use Rattle.record.specs.Saving.{saving_checks, Saves}
@@ -64,6 +64,8 @@ pub record Demand1 : Type 0 where
   -- "A request frame: 1, 2, 3, 4, 7, 1, 5, 7, 10"
   pub reads_request : (frame : List ℕ)
       → Answers (request_order frame) (request_of frame) nothing (λ r left. answer_of r ≡ read_request frame)
+  -- .. and its flags alone: 5
+  pub reads_flags : (flags : ℕ) → Answers (check (not (flags_allowed flags)) 5 ∷ []) (asks_by flags) nothing (λ r left. AsksBy flags r)
   -- "Taking in a piece: the frame's reasons, then 7 (L), 12, 9, 10, 11"
   pub takes : (number l : ℕ) (lent : Lent) (frame : List ℕ) → let s = reception_in number l lent in
       Answers (taking_order s frame) (taken_new s (piece_data_in frame)) lent

@@ -26,7 +26,7 @@ returns-in_err-written c =
     let reason = c.in_err-written.field-0.0 in
     let passed : c.from_residual.result ≡ Err reason = search rules in
     rw passed (gathered_none (wanted_for a.head a.file a.map.now) a.place a.target.now (sym c.writable.ensures ∙ c.if-not-writable.false) reason
-    c.in_err-written.ensures)
+    c.in_err-written.ensures.0)
 
 pub returns-then-target-size : goal.returns-then-target-size
 returns-then-target-size c =

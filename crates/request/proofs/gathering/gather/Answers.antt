@@ -6,7 +6,7 @@ use Rattle.reason.specs.Reasons.{number_of}
 use Rattle.reason.specs.Answer.{accepted, answer_of}
 use Rattle.holes.specs.Listing.{listing}
 use Rattle.holes.proofs.ListedLaws.{listed_within}
-use Rattle.request.proofs.GatheringLaws.{at_first, one_more, no_more, all_listed}
+use Rattle.request.proofs.GatheringLaws.{at_first, one_more, none_listed, no_more, all_listed}
 use Rattle.request.proofs.gathering.gather.Goals as goal
 
 pub loop-count-init : goal.loop-count-init
@@ -32,6 +32,13 @@ loop-count-preserved c =
     let listed : listing a.l a.map.now l.end ≡ accepted hole = sym c.list.ensures ∙ ap answer_of c.in-Ok.is in
     one_more a.l a.map.now a.place a.entries.now c.requires l.count l.end _ l.invariant
     hole _ _ c.put.result c.loop-count-test.true listed c.bytes_of.ensures c.put.ensures
+
+pub returns-in-Err : goal.returns-in-Err
+returns-in-Err c =
+    let a = c.args in
+    let l = c.loop-count in
+    none_listed a.l a.map.now a.place a.entries.now c.requires l.count l.end _ l.invariant (number_of c.in-Err.reason)
+    (sym c.list.ensures ∙ ap answer_of c.in-Err.is) c.if-count-eq0.true
 
 pub returns-in-Err-2 : goal.returns-in-Err-2
 returns-in-Err-2 c =
