@@ -5,6 +5,7 @@
 #![tactic(auto)]
 
 use ax25::{Address, Role};
+use program_tools::printer::Printer;
 use std::io;
 
 // A source with a name of six characters, of two, and of one.
@@ -15,8 +16,8 @@ const TWO: [u8; 7] = [0x82, 0x62, 0x40, 0x40, 0x40, 0x40, 0x61];
 const ONE: [u8; 7] = [0x82, 0x40, 0x40, 0x40, 0x40, 0x40, 0x61];
 
 fn main(rt: HostRuntime) {
-    // Where standard output is closed there is nobody to tell.
-    let _ = all(&rt);
+    // A printer answers no error.
+    let _ = all(&Printer { rt: &rt });
 }
 
 // All lines, in their order.

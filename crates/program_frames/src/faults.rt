@@ -1,12 +1,12 @@
 // Every fault planted alone, and every pair of faults that one frame can have: the first in the order
 // of the paper is answered. A question mark stands behind an answer that is another one.
 use crate::bases;
+use crate::bases::Frame;
 use crate::kinds::Kind;
 use program_tools::made;
 use program_tools::planted::Planted;
 use program_tools::show::Answer;
 use reason::Reason;
-use std::alloc::{AllocError, Global};
 use std::{fmt, io};
 
 // The faults, in the paper's order. From the destination to the protocol they are those of the first 16 bytes.
@@ -124,13 +124,13 @@ impl fmt::Display for Fault {
 }
 
 // The lines of each fault with itself, which is that fault alone, and with each that comes later in the order.
-pub(crate) fn pairs(rt: &impl Print, alloc: Global, kind: Kind) -> io::Result<()> {
+pub(crate) fn pairs(rt: &impl Print, kind: Kind) -> io::Result<()> {
     println!(rt; "Faults: {kind}")?;
     for first in Fault::ALL {
         for second in Fault::ALL {
             let f = Planted { first, second };
             if possible(kind, f) {
-                line(rt, kind, f, &frame(alloc, kind, f)?)?;
+                line(rt, kind, f, &frame(kind, f))?;
             }
         }
     }
@@ -152,7 +152,7 @@ fn possible(kind: Kind, f: Planted<Fault>) -> bool {
 }
 
 // The lines of a frame's first 16 bytes with one fault, where there are no more.
-pub(crate) fn heads(rt: &impl Print, alloc: Global, kind: Kind) -> io::Result<()> {
+pub(crate) fn heads(rt: &impl Print, kind: Kind) -> io::Result<()> {
     println!(rt; "Faults of 16 bytes: {kind}")?;
     for fault in [
         Fault::Destination,
@@ -161,7 +161,7 @@ pub(crate) fn heads(rt: &impl Print, alloc: Global, kind: Kind) -> io::Result<()
         Fault::Protocol,
     ] {
         let f = alone(fault);
-        line(rt, kind, f, made::first(&frame(alloc, kind, f)?, 16))?;
+        line(rt, kind, f, made::first(&frame(kind, f), 16))?;
     }
     Ok(())
 }
@@ -191,24 +191,24 @@ fn line(rt: &impl Print, kind: Kind, f: Planted<Fault>, frame: &[u8]) -> io::Res
 }
 
 // The frame with the faults.
-pub(crate) fn frame(alloc: Global, kind: Kind, f: Planted<Fault>) -> Result<Vec<u8>, AllocError> {
+pub(crate) fn frame(kind: Kind, f: Planted<Fault>) -> Frame {
     let mut frame = match kind {
-        Kind::Piece => piece(alloc, f)?,
-        Kind::Entry => entry(alloc, f)?,
+        Kind::Piece => piece(f),
+        Kind::Entry => entry(f),
     };
     f.first.plant(&mut frame);
     if f.first != f.second {
         f.second.plant(&mut frame);
     }
-    let mut frame = bases::closed(frame, f.choice(Fault::Check, 0, 1))?;
+    let mut frame = bases::closed(&frame, f.choice(Fault::Check, 0, 1));
     if f.has(Fault::Short) {
         frame.truncate(15);
     }
-    Ok(frame)
+    frame
 }
 
 // A piece with no fault but one of its length, without its check.
-fn piece(alloc: Global, f: Planted<Fault>) -> Result<Vec<u8>, AllocError> {
+fn piece(f: Planted<Fault>) -> Frame {
     let n = if f.has(Fault::Long) {
         245
     } else if f.has(Fault::Information) || f.has(Fault::NoData) {
@@ -216,22 +216,22 @@ fn piece(alloc: Global, f: Planted<Fault>) -> Result<Vec<u8>, AllocError> {
     } else {
         4
     };
-    let mut frame = bases::piece(alloc, n)?;
+    let mut frame = bases::piece(n);
     if f.has(Fault::Information) {
         frame.truncate(24);
     }
-    Ok(frame)
+    frame
 }
 
 // An entry with no fault but one of its length, without its check.
-fn entry(alloc: Global, f: Planted<Fault>) -> Result<Vec<u8>, AllocError> {
+fn entry(f: Planted<Fault>) -> Frame {
     let mut frame = if f.has(Fault::Long) {
-        bases::long_entry(alloc)?
+        bases::long_entry()
     } else {
-        bases::entry(alloc)?
+        bases::entry()
     };
     if f.has(Fault::Information) {
         frame.truncate(32);
     }
-    Ok(frame)
+    frame
 }

@@ -16,29 +16,29 @@ mod places;
 
 use kinds::Kind;
 use program_tools::ending::ended;
-use std::alloc::Global;
+use program_tools::printer::Printer;
 use std::io;
 
 fn main(rt: HostRuntime) -> io::Result<()> {
-    ended(all(&rt, rt.alloc()))
+    ended(all(&Printer { rt: &rt }))
 }
 
 // All lines, in their order.
-fn all(rt: &impl Print, alloc: Global) -> io::Result<()> {
+fn all(rt: &impl Print) -> io::Result<()> {
     for kind in Kind::ALL {
-        lengths::all(rt, alloc, kind)?;
+        lengths::all(rt, kind)?;
     }
-    places::all(rt, alloc)?;
+    places::all(rt)?;
     for kind in Kind::ALL {
-        flags::all(rt, alloc, kind)?;
-    }
-    for kind in Kind::ALL {
-        faults::pairs(rt, alloc, kind)?;
+        flags::all(rt, kind)?;
     }
     for kind in Kind::ALL {
-        faults::heads(rt, alloc, kind)?;
+        faults::pairs(rt, kind)?;
     }
-    handed::pieces(rt, alloc)?;
-    handed::entries(rt, alloc)?;
-    handed::fields(rt, alloc)
+    for kind in Kind::ALL {
+        faults::heads(rt, kind)?;
+    }
+    handed::pieces(rt)?;
+    handed::entries(rt)?;
+    handed::fields(rt)
 }

@@ -3,7 +3,6 @@
 use crate::bases;
 use crate::kinds::Kind;
 use program_tools::show::Answer;
-use std::alloc::Global;
 use std::io;
 
 // Each byte, its place, and the size of the entry without its check, which is 113 in the figure.
@@ -20,18 +19,17 @@ const BYTES: [(u8, usize, usize); 9] = [
 ];
 
 // The lines of all of them.
-pub(crate) fn all(rt: &impl Print, alloc: Global) -> io::Result<()> {
+pub(crate) fn all(rt: &impl Print) -> io::Result<()> {
     for (byte, at, size) in BYTES {
-        line(rt, alloc, byte, at, size)?;
+        line(rt, byte, at, size)?;
     }
     Ok(())
 }
 
 // The line of the entry with another byte at a place, followed by zeros up to a size.
-fn line(rt: &impl Print, alloc: Global, byte: u8, at: usize, size: usize) -> io::Result<()> {
-    let mut frame = bases::entry(alloc)?;
-    frame.resize(size, 0)?;
+fn line(rt: &impl Print, byte: u8, at: usize, size: usize) -> io::Result<()> {
+    let mut frame = bases::filled(&bases::entry(), size);
     octets::put(&mut frame, at, &[byte]);
-    let answer = Kind::Entry.answer(&bases::checked(frame)?);
+    let answer = Kind::Entry.answer(&bases::checked(&frame));
     println!(rt; "{byte:02X} at {at} of {size}: {}", Answer(answer))
 }

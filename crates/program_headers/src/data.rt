@@ -3,16 +3,15 @@ use crate::figure::HEADER;
 use crate::items;
 use crate::items::Items;
 use program_tools::show::Hex;
-use std::alloc::Global;
 use std::io;
 
 // Items 02, 03 and 30 of the figure, and item 30 of a header with two: 01 02 and 03 04 05.
-pub(crate) fn all(rt: &impl Print, alloc: Global) -> io::Result<()> {
+pub(crate) fn all(rt: &impl Print) -> io::Result<()> {
     for id in [0x02, 0x03, 0x30] {
         item(rt, &HEADER, id)?;
     }
     let tail = b"\x30\0\x02\x01\x02\x30\0\x03\x03\x04\x05\0\0\0";
-    item(rt, &items::header(alloc, Items::Same, tail)?, 0x30)
+    item(rt, &items::header(Items::Same, tail)?, 0x30)
 }
 
 // The line of an item.

@@ -12,21 +12,21 @@ mod lengths;
 mod rules;
 
 use program_tools::ending::ended;
-use std::alloc::Global;
+use program_tools::printer::Printer;
 use std::io;
 
 fn main(rt: HostRuntime) -> io::Result<()> {
-    ended(all(&rt, rt.alloc()))
+    ended(all(&Printer { rt: &rt }))
 }
 
 // All lines, in their order.
-fn all(rt: &impl Print, alloc: Global) -> io::Result<()> {
+fn all(rt: &impl Print) -> io::Result<()> {
     println!(rt; "Rules of a header")?;
-    rules::all(rt, alloc)?;
+    rules::all(rt)?;
     println!(rt; "Bytes behind a header")?;
-    lengths::longer(rt, alloc)?;
+    lengths::longer(rt)?;
     println!(rt; "A header cut to its first bytes")?;
     lengths::cut(rt)?;
     println!(rt; "Items' bytes")?;
-    data::all(rt, alloc)
+    data::all(rt)
 }

@@ -1,9 +1,9 @@
 // The rules of a header: each broken, and what they allow.
 use crate::figure::{HEADER, Item, SUM};
-use crate::items::{Items, Part};
+use crate::items::{Bytes, Items, Part};
 use crate::{answers, figure, items};
 use program_tools::show::Hex;
-use std::alloc::{AllocError, Global};
+use std::alloc::AllocError;
 use std::io;
 
 // The last bytes of a header: the end item.
@@ -98,65 +98,66 @@ const BODIES: [u16; 4] = [0x004F, 0x0050, 0x06E0, 0x06E1];
 const SUMS: [u16; 3] = [0x0C85, 0x0D14, 0x840C];
 
 // All lines: headers with another marker, with other items, and with other values in their items.
-pub(crate) fn all(rt: &impl Print, alloc: Global) -> io::Result<()> {
+pub(crate) fn all(rt: &impl Print) -> io::Result<()> {
     for marker in MARKERS {
         print!(rt; "marker{}", Hex(&marker))?;
         answers::end(rt, &figure::with(0, &marker))?;
     }
-    changed(rt, alloc)?;
-    others(rt, alloc)?;
-    ends(rt, alloc)?;
+    changed(rt)?;
+    others(rt)?;
+    ends(rt)?;
     values(rt)?;
-    large_sums(rt, alloc)
+    large_sums(rt)
 }
 
 // Each item changed, and then item 0A in two ways more.
-fn changed(rt: &impl Print, alloc: Global) -> io::Result<()> {
+fn changed(rt: &impl Print) -> io::Result<()> {
     for change in &CHANGES {
         for item in Item::ALL {
-            line(rt, alloc, item, change)?;
+            line(rt, item, change)?;
         }
     }
     for change in &SUM_CHANGES {
-        line(rt, alloc, Item::ALL[10], change)?;
+        line(rt, Item::ALL[10], change)?;
     }
     Ok(())
 }
 
 // The line of a change of an item.
-fn line(rt: &impl Print, alloc: Global, item: Item, change: &Change) -> io::Result<()> {
+fn line(rt: &impl Print, item: Item, change: &Change) -> io::Result<()> {
     print!(rt; "item {:02X} {}", item.id, change.name)?;
     let items = Items::Changed(item, change.first, change.second);
-    answers::end(rt, &items::header(alloc, items, &END)?)
+    answers::end(rt, &items::header(items, &END)?)
 }
 
 // Items of other ids, whose data are zeros.
-fn others(rt: &impl Print, alloc: Global) -> io::Result<()> {
+fn others(rt: &impl Print) -> io::Result<()> {
     for (id, length) in OTHERS {
         print!(rt; "item {id:04X} of length {length}")?;
-        let tail = other(alloc, id, length)?;
-        answers::end(rt, &items::header(alloc, Items::Same, &tail)?)?;
+        let tail = other(id, length)?;
+        answers::end(rt, &items::header(Items::Same, &tail)?)?;
     }
     Ok(())
 }
 
 // Such an item and the end item.
-fn other(alloc: Global, id: u16, length: u8) -> Result<Vec<u8>, AllocError> {
-    let mut tail = id.to_le_bytes().to_vec(alloc)?;
-    tail.push(length)?;
-    tail.resize(usize::from(length) + 3, 0)?;
-    tail.extend_from_slice(&END)?;
+fn other(id: u16, length: u8) -> Result<Bytes, AllocError> {
+    let mut tail = Bytes::new();
+    tail.extend(id.to_le_bytes())?;
+    tail.extend([length])?;
+    tail.extend(std::iter::repeat(0).take(usize::from(length)))?;
+    tail.extend(END)?;
     Ok(tail)
 }
 
 // Other last bytes behind the figure's items, and the items in reverse order.
-fn ends(rt: &impl Print, alloc: Global) -> io::Result<()> {
+fn ends(rt: &impl Print) -> io::Result<()> {
     for tail in TAILS {
         print!(rt; "items, then{}", Hex(tail))?;
-        answers::end(rt, &items::header(alloc, Items::Same, tail)?)?;
+        answers::end(rt, &items::header(Items::Same, tail)?)?;
     }
     print!(rt; "items in reverse order")?;
-    answers::end(rt, &items::header(alloc, Items::Reversed, &END)?)
+    answers::end(rt, &items::header(Items::Reversed, &END)?)
 }
 
 // Other values of items 01, 0B, 04 and 0A: that of item 04 is beyond 16 bits.
@@ -181,8 +182,8 @@ fn values(rt: &impl Print) -> io::Result<()> {
 }
 
 // A sum beyond 65,535, of which item 0A is the low 16 bits, and those and 1 more.
-fn large_sums(rt: &impl Print, alloc: Global) -> io::Result<()> {
-    let mut header = items::header(alloc, Items::Same, &large(alloc)?)?;
+fn large_sums(rt: &impl Print) -> io::Result<()> {
+    let mut header = items::header(Items::Same, &large()?)?;
     print!(rt; "sum beyond 65535")?;
     answers::end(rt, &header)?;
     octets::put(&mut header, SUM, b"\x6A\x8C");
@@ -191,11 +192,12 @@ fn large_sums(rt: &impl Print, alloc: Global) -> io::Result<()> {
 }
 
 // Two items 30 of 255 bytes each, FF and 80, and the end item.
-fn large(alloc: Global) -> Result<Vec<u8>, AllocError> {
-    let mut tail = b"\x30\0\xFF".to_vec(alloc)?;
-    tail.resize(258, 0xFF)?;
-    tail.extend_from_slice(b"\x30\0\xFF")?;
-    tail.resize(516, 0x80)?;
-    tail.extend_from_slice(&END)?;
+fn large() -> Result<Bytes, AllocError> {
+    let mut tail = Bytes::new();
+    tail.extend(*b"\x30\0\xFF")?;
+    tail.extend(std::iter::repeat(0xFF).take(255))?;
+    tail.extend(*b"\x30\0\xFF")?;
+    tail.extend(std::iter::repeat(0x80).take(255))?;
+    tail.extend(END)?;
     Ok(tail)
 }

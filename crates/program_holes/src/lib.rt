@@ -11,10 +11,10 @@ ghost use Rattle.reception.specs.Reception.{longest};
 ghost use Rattle.record.specs.Record.{record_length};
 ghost use Rattle.report.specs.Reporting.{Reports};
 
+use program_tools::input::read_full;
 use reason::Reason;
 use record::LARGEST;
 use report::LONGEST_TEXT;
-use std::io::Read;
 
 // One byte more than the largest record has, so that a byte too many is noticed.
 const INPUT: usize = LARGEST + 1;
@@ -29,21 +29,6 @@ pub fn run(rt: &(impl Input + Print)) {
         // Where standard output is closed there is nobody to tell.
         let _ = rt.write_all(&text[..size]);
     }
-}
-
-// Reads into the first bytes of a space, until it is full or nothing more comes; how many bytes they are.
-// Kept: `read_exact` refuses an input that is shorter than the space, and `read_to_end` takes as much memory as there is input.
-fn read_full(mut reader: impl Read + Drop, space: &mut [u8]) -> usize
-    ensures { result ≤ length space.new }
-{
-    let mut n = 0;
-    while n < space.len() {
-        match reader.read(&mut space[n..]) {
-            Ok(0) | Err(_) => break,
-            Ok(more) => n += more,
-        }
-    }
-    n
 }
 
 // Writes the text of a whole input, of which the first bytes were read: as many as there is space for, or all of

@@ -6,7 +6,6 @@ use crate::{patterns, spaces};
 use holes::Hole;
 use program_tools::show::Answer;
 use reason::Reason;
-use std::alloc::Global;
 use std::io;
 
 // The holes that were passed: the sums of their starts and of their ends, and the place behind the last, or the
@@ -39,25 +38,20 @@ impl Passed {
 }
 
 // The lines of every length and pattern, with spare bits set or clear in turn.
-pub(crate) fn all(rt: &impl Print, alloc: Global) -> io::Result<()> {
+pub(crate) fn all(rt: &impl Print) -> io::Result<()> {
     for (row, length) in spaces::LENGTHS[1..12].iter().enumerate() {
         for (column, pattern) in Pattern::ALL.iter().enumerate() {
-            listed(rt, alloc, *length, *pattern, row % 2 != column % 2)?;
+            listed(rt, *length, *pattern, row % 2 != column % 2)?;
         }
     }
     Ok(())
 }
 
 // The line of a length and a pattern, with spare bits set or clear.
-fn listed(
-    rt: &impl Print,
-    alloc: Global,
-    length: u32,
-    pattern: Pattern,
-    set: bool,
-) -> io::Result<()> {
-    let map = patterns::map(alloc, MAP, length, pattern, set)?;
-    let Passed { starts, ends, last } = asked(length, &map);
+fn listed(rt: &impl Print, length: u32, pattern: Pattern, set: bool) -> io::Result<()> {
+    let mut map = [0; MAP];
+    let map = patterns::map(&mut map, MAP as u32, length, pattern, set);
+    let Passed { starts, ends, last } = asked(length, map);
     let spare = if set { "set" } else { "clear" };
     print!(rt; "holes of {length} {pattern}, spare bits {spare}")?;
     println!(rt;

@@ -2,10 +2,10 @@
 // order 7, 12, 9, 10, 11 is answered, and no lent byte changes. Held are the positions from 8 to 19,
 // and the piece is that of the four positions from 16 on.
 use crate::patterns::Pattern;
+use crate::spaces::{BUFFER, MAP};
 use crate::takes::Take;
 use crate::{patterns, spaces};
 use program_tools::planted::Planted;
-use std::alloc::Global;
 use std::{fmt, io};
 
 // The faults, in the order of their reasons.
@@ -50,14 +50,14 @@ impl fmt::Display for Fault {
 }
 
 // A line for each fault, for each pair of faults, and for none. Of a length that would be 0 and 32,769 there is none.
-pub(crate) fn all(rt: &impl Print, alloc: Global) -> io::Result<()> {
+pub(crate) fn all(rt: &impl Print) -> io::Result<()> {
     for first in Fault::ALL {
         for second in Fault::ALL {
             let two_lengths = first == Fault::NoLength && second == Fault::Long;
             let f = Planted { first, second };
             if spaces::in_order(f, Fault::Nothing) && !two_lengths {
                 print!(rt; "take with {f}")?;
-                taken(rt, alloc, f)?;
+                taken(rt, f)?;
             }
         }
     }
@@ -65,12 +65,14 @@ pub(crate) fn all(rt: &impl Print, alloc: Global) -> io::Result<()> {
 }
 
 // The rest of a line: the reception is made in a lent space, and takes the piece.
-fn taken(rt: &impl Print, alloc: Global, f: Planted<Fault>) -> io::Result<()> {
+fn taken(rt: &impl Print, f: Planted<Fault>) -> io::Result<()> {
     let length = spaces::wrong_length(f, Fault::NoLength, Fault::Long, 20);
     let lent = spaces::exact(f, length, Fault::ShortMap, Fault::ShortBuffer);
-    let mut map = patterns::map(alloc, lent.map, 20, Pattern::High, false)?;
-    let mut buffer = patterns::buffer(alloc, lent.buffer, 20, Pattern::High)?;
-    piece(f, length).answer(rt, alloc, &mut map, &mut buffer)
+    let mut map = [0; MAP];
+    let mut buffer = [0; BUFFER];
+    let map = patterns::map(&mut map, lent.map, 20, Pattern::High, false);
+    let buffer = patterns::buffer(&mut buffer, lent.buffer, 20, Pattern::High);
+    piece(f, length).answer(rt, map, buffer)
 }
 
 // The piece: a fifth byte ends beyond the length, and the fourth differs. Beyond the length 32,769 it starts at 32,765.

@@ -6,7 +6,6 @@ use crate::patterns::Pattern;
 use crate::spaces;
 use program_tools::planted::Planted;
 use reception::File;
-use std::alloc::Global;
 use std::{fmt, io};
 
 // The faults, in the order of their reasons.
@@ -63,13 +62,13 @@ impl fmt::Display for Fault {
 }
 
 // A line for each fault, for each pair of faults, and for none. Of a length that would be 0 and 32,769 there is none.
-pub(crate) fn all(rt: &impl Print, alloc: Global) -> io::Result<()> {
+pub(crate) fn all(rt: &impl Print) -> io::Result<()> {
     for first in Fault::ALL {
         for second in Fault::ALL {
             let f = Planted { first, second };
             if spaces::in_order(f, Fault::Nothing) && !two_lengths(f) {
                 print!(rt; "join with {f}")?;
-                join(f).answer(rt, alloc)?;
+                join(f).answer(rt)?;
             }
         }
     }

@@ -3,11 +3,10 @@
 // same pattern has the same rubbish too: it is the first itself.
 use crate::answers::{Added, Sums};
 use crate::patterns::Pattern;
-use crate::spaces::Lent;
+use crate::spaces::{BUFFER, Lent, MAP};
 use crate::{patterns, spaces};
 use program_tools::made;
 use reception::{File, Reception};
-use std::alloc::{AllocError, Global};
 use std::io;
 
 // A reception of a join: its file, its pattern, whether its spare bits are set, and the space that is lent for it.
@@ -20,14 +19,14 @@ pub(crate) struct Side {
 }
 
 impl Side {
-    // Its map, made for a length.
-    fn map(self, alloc: Global, made: u32) -> Result<Vec<u8>, AllocError> {
-        patterns::map(alloc, self.lent.map, made, self.pattern, self.set)
+    // Its map in a space, made for a length.
+    fn map(self, space: &mut [u8], made: u32) -> &mut [u8] {
+        patterns::map(space, self.lent.map, made, self.pattern, self.set)
     }
 
-    // Its buffer, made for a length.
-    fn buffer(self, alloc: Global, made: u32) -> Result<Vec<u8>, AllocError> {
-        patterns::buffer(alloc, self.lent.buffer, made, self.pattern)
+    // Its buffer in a space, made for a length.
+    fn buffer(self, space: &mut [u8], made: u32) -> &mut [u8] {
+        patterns::buffer(space, self.lent.buffer, made, self.pattern)
     }
 }
 
@@ -44,40 +43,38 @@ pub(crate) struct Join {
 
 impl Join {
     // The rest of a line: both receptions are made, and the second is joined into the first.
-    pub(crate) fn answer(self, rt: &impl Print, alloc: Global) -> io::Result<()> {
-        let mut map = self.first.map(alloc, self.made)?;
-        let mut buffer = self.first.buffer(alloc, self.made)?;
-        made::turn(&mut buffer, self.at, self.bits);
-        let other_map = self.second.map(alloc, self.made)?;
-        let other_buffer = self.second.buffer(alloc, self.made)?;
+    pub(crate) fn answer(self, rt: &impl Print) -> io::Result<()> {
+        let mut map = [0; MAP];
+        let mut buffer = [0; BUFFER];
+        let map = self.first.map(&mut map, self.made);
+        let buffer = self.first.buffer(&mut buffer, self.made);
+        made::turn(buffer, self.at, self.bits);
+        let mut other_map = [0; MAP];
+        let mut other_buffer = [0; BUFFER];
         let second = Reception {
             file: self.second.file,
-            map: &other_map,
-            buffer: &other_buffer,
+            map: self.second.map(&mut other_map, self.made),
+            buffer: self.second.buffer(&mut other_buffer, self.made),
         };
-        let added = Added(reception::join(self.first.file, &mut map, &mut buffer, second));
-        let sums = Sums {
-            map: &map,
-            buffer: &buffer,
-        };
-        println!(rt; ": {added}, {sums}")
+        let added = Added(reception::join(self.first.file, map, buffer, second));
+        println!(rt; ": {added}, {}", Sums { map, buffer })
     }
 }
 
 // The lines of seven lengths.
-pub(crate) fn all(rt: &impl Print, alloc: Global) -> io::Result<()> {
+pub(crate) fn all(rt: &impl Print) -> io::Result<()> {
     for (row, length) in (0..).zip(&spaces::LENGTHS[1..8]) {
-        each(rt, alloc, row, *length)?;
+        each(rt, row, *length)?;
     }
     Ok(())
 }
 
 // The lines of a length, which stands in a row of the list, with one of seven patterns for each reception.
-fn each(rt: &impl Print, alloc: Global, row: u8, length: u32) -> io::Result<()> {
+fn each(rt: &impl Print, row: u8, length: u32) -> io::Result<()> {
     for first in &Pattern::ALL[..7] {
         for second in &Pattern::ALL[..7] {
             let c = u64::from(row) * 49 + *first as u64 * 7 + *second as u64;
-            joined(rt, alloc, drawn(c, length, *first, *second))?;
+            joined(rt, drawn(c, length, *first, *second))?;
         }
     }
     Ok(())
@@ -107,7 +104,7 @@ fn drawn(c: u64, length: u32, first: Pattern, second: Pattern) -> Join {
 }
 
 // The line of a join.
-fn joined(rt: &impl Print, alloc: Global, j: Join) -> io::Result<()> {
+fn joined(rt: &impl Print, j: Join) -> io::Result<()> {
     let spare = match (j.first.set, j.second.set) {
         (false, false) => "clear",
         (true, false) => "of the first set",
@@ -119,5 +116,5 @@ fn joined(rt: &impl Print, alloc: Global, j: Join) -> io::Result<()> {
         j.made, j.first.pattern, j.second.pattern
     )?;
     print!(rt; ", spare bits {spare}, turned over {} at {}", j.bits, j.at)?;
-    j.answer(rt, alloc)
+    j.answer(rt)
 }

@@ -16,20 +16,20 @@ mod sequences;
 mod spaces;
 mod takes;
 
-use program_tools::ending::ended;
-use std::alloc::Global;
+use program_tools::printer::Printer;
 use std::io;
 
-fn main(rt: HostRuntime) -> io::Result<()> {
-    ended(all(&rt, rt.alloc()))
+fn main(rt: HostRuntime) {
+    // A printer answers no error.
+    let _ = all(&Printer { rt: &rt });
 }
 
 // All lines, in their order.
-fn all(rt: &impl Print, alloc: Global) -> io::Result<()> {
-    opens::all(rt, alloc)?;
-    faults::all(rt, alloc)?;
-    join_faults::all(rt, alloc)?;
-    joins::all(rt, alloc)?;
-    all_holes::all(rt, alloc)?;
-    lists::all(rt, alloc)
+fn all(rt: &impl Print) -> io::Result<()> {
+    opens::all(rt)?;
+    faults::all(rt)?;
+    join_faults::all(rt)?;
+    joins::all(rt)?;
+    all_holes::all(rt)?;
+    lists::all(rt)
 }

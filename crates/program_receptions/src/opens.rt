@@ -4,10 +4,9 @@
 use crate::answers::Sums;
 use crate::patterns::Pattern;
 use crate::sequences::Sequence;
-use crate::spaces::Lent;
+use crate::spaces::{BUFFER, Lent, MAP};
 use crate::{patterns, spaces};
 use program_tools::show::Refused;
-use std::alloc::Global;
 use std::io;
 
 // How large a space is: short by one, exact, or longer by five.
@@ -28,19 +27,19 @@ impl Size {
 }
 
 // The lines of every length.
-pub(crate) fn all(rt: &impl Print, alloc: Global) -> io::Result<()> {
+pub(crate) fn all(rt: &impl Print) -> io::Result<()> {
     for (row, length) in (0..).zip(spaces::LENGTHS) {
-        each(rt, alloc, row, length)?;
+        each(rt, row, length)?;
     }
     Ok(())
 }
 
 // The lines of a length, which stands in a row of the list, with every size of the spaces.
-fn each(rt: &impl Print, alloc: Global, row: u8, length: u32) -> io::Result<()> {
+fn each(rt: &impl Print, row: u8, length: u32) -> io::Result<()> {
     for map in Size::ALL {
         for buffer in Size::ALL {
             let lent = spaces::space(length % 33000, map.more(), buffer.more());
-            opened(rt, alloc, length, lent, sequence(row, map, buffer))?;
+            opened(rt, length, lent, sequence(row, map, buffer))?;
         }
     }
     Ok(())
@@ -63,30 +62,22 @@ fn sequence(row: u8, map: Size, buffer: Size) -> Option<Sequence> {
 }
 
 // The lines of a length with so many bytes of map and buffer: the answer, and the sequence of pieces.
-fn opened(
-    rt: &impl Print,
-    alloc: Global,
-    length: u32,
-    lent: Lent,
-    sequence: Option<Sequence>,
-) -> io::Result<()> {
-    let mut map = patterns::rubbish(alloc, lent.map, Pattern::Nothing)?;
-    let mut buffer = patterns::rubbish(alloc, lent.buffer, Pattern::Nothing)?;
+fn opened(rt: &impl Print, length: u32, lent: Lent, sequence: Option<Sequence>) -> io::Result<()> {
+    let mut map = [0; MAP];
+    let mut buffer = [0; BUFFER];
+    let map = patterns::rubbish(&mut map, lent.map, Pattern::Nothing);
+    let buffer = patterns::rubbish(&mut buffer, lent.buffer, Pattern::Nothing);
     print!(rt;
         "open {length} with map of {} and buffer of {}",
         lent.map, lent.buffer
     )?;
-    match reception::open(length, &mut map, &mut buffer) {
+    match reception::open(length, map, buffer) {
         Ok(()) => print!(rt; ": opened")?,
         Err(reason) => print!(rt; ": {}", Refused(reason))?,
     }
-    let sums = Sums {
-        map: &map,
-        buffer: &buffer,
-    };
-    println!(rt; ", {sums}")?;
+    println!(rt; ", {}", Sums { map, buffer })?;
     match sequence {
-        Some(sequence) => sequence.taken(rt, alloc, length, &mut map, &mut buffer),
+        Some(sequence) => sequence.taken(rt, length, map, buffer),
         None => Ok(()),
     }
 }

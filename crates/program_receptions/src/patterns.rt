@@ -2,7 +2,6 @@
 // of two patterns differs.
 use crate::spaces;
 use program_tools::made;
-use std::alloc::{AllocError, Global};
 use std::fmt;
 
 // What is held: no position, every one, the even ones, the odd ones, those of two kinds drawn by lot, those
@@ -80,45 +79,44 @@ fn rubbish_byte(at: u32, pattern: Pattern) -> u8 {
     made::rubbish(at as usize, pattern as usize)
 }
 
-// So many bytes of rubbish.
-pub(crate) fn rubbish(alloc: Global, size: u32, pattern: Pattern) -> Result<Vec<u8>, AllocError> {
-    (0..size).map(|at| rubbish_byte(at, pattern)).collect(alloc)
+// So many bytes of rubbish, at the start of a space.
+pub(crate) fn rubbish(space: &mut [u8], size: u32, pattern: Pattern) -> &mut [u8] {
+    let bytes = made::lent(space, size as usize);
+    for (byte, at) in bytes.iter_mut().zip(0..size) {
+        *byte = rubbish_byte(at, pattern);
+    }
+    bytes
 }
 
-// So many bytes of the buffer of a reception of a length: at a position that is held the byte of the made-up
-// file.
-pub(crate) fn buffer(
-    alloc: Global,
-    size: u32,
-    length: u32,
-    pattern: Pattern,
-) -> Result<Vec<u8>, AllocError> {
-    (0..size)
-        .map(|p| {
-            if p < length && pattern.holds(p) {
-                file_byte(p)
-            } else {
-                rubbish_byte(p, pattern)
-            }
-        })
-        .collect(alloc)
+// So many bytes of the buffer of a reception of a length, at the start of a space: at a position that is held the byte of
+// the made-up file.
+pub(crate) fn buffer(space: &mut [u8], size: u32, length: u32, pattern: Pattern) -> &mut [u8] {
+    let buffer = made::lent(space, size as usize);
+    for (byte, p) in buffer.iter_mut().zip(0..size) {
+        *byte = if p < length && pattern.holds(p) {
+            file_byte(p)
+        } else {
+            rubbish_byte(p, pattern)
+        };
+    }
+    buffer
 }
 
-// So many bytes of the map of a reception of a length, with its spare bits set or clear.
+// So many bytes of the map of a reception of a length, with its spare bits set or clear, at the start of a space.
 // Kept: `set` is a flag, here and in `all_holes`, `joins` and `sequences`, since it says no more than whether bits are set.
 pub(crate) fn map(
-    alloc: Global,
+    space: &mut [u8],
     size: u32,
     length: u32,
     pattern: Pattern,
     set: bool,
-) -> Result<Vec<u8>, AllocError> {
-    let mut map = rubbish(alloc, size, pattern)?;
+) -> &mut [u8] {
+    let map = rubbish(space, size, pattern);
     for p in 0..length {
-        put(&mut map, p / 8, 1 << (p % 8), pattern.holds(p));
+        put(map, p / 8, 1 << (p % 8), pattern.holds(p));
     }
-    spare(&mut map, length, set);
-    Ok(map)
+    spare(map, length, set);
+    map
 }
 
 // Makes the spare bits of a map set or clear.

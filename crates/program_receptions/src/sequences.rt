@@ -3,7 +3,6 @@
 // repeated.
 use crate::takes::Take;
 use crate::{patterns, spaces};
-use std::alloc::Global;
 use std::{fmt, io};
 
 // A sequence: the number from which its pieces are drawn, and whether the spare bits are set by hand before it
@@ -19,7 +18,6 @@ impl Sequence {
     pub(crate) fn taken(
         self,
         rt: &impl Print,
-        alloc: Global,
         length: u32,
         map: &mut [u8],
         buffer: &mut [u8],
@@ -31,7 +29,7 @@ impl Sequence {
             let kind = Kind::drawn(seed);
             let t = piece(seed, kind, length);
             print!(rt; "take {length} at {} bytes {}{kind}", t.offset, t.size)?;
-            t.answer(rt, alloc, map, buffer)?;
+            t.answer(rt, map, buffer)?;
         }
         Ok(())
     }

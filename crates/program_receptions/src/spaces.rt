@@ -7,8 +7,13 @@ pub(crate) const LENGTHS: [u32; 15] = [
     0, 1, 7, 8, 9, 20, 65, 1000, 63, 64, 32767, 32768, 32769, 65556, 4294967295,
 ];
 
-// How many bytes of a map are lent where nothing is to be written: more than any file needs.
-pub(crate) const MAP: u32 = 4200;
+// How many bytes of space there are for a map, for a buffer and for a piece: more than any file needs, and as many as the
+// longest piece has. Where nothing is to be written in a map, all of its space is lent.
+pub(crate) const MAP: usize = 4200;
+
+pub(crate) const BUFFER: usize = 33000;
+
+pub(crate) const PIECE: usize = 1000;
 
 // How many bytes of a map and of a buffer are lent.
 #[derive(Clone, Copy, Debug, PartialEq, Eq)]

@@ -1,9 +1,9 @@
 // Taking one piece of the made-up file into a reception, and the rest of a line about it.
 use crate::answers::{Added, Sums};
 use crate::patterns;
+use crate::spaces::PIECE;
 use program_tools::made;
 use reception::{Data, File};
-use std::alloc::{AllocError, Global};
 use std::io;
 
 // A piece for the reception of file 7: the reception's length, the piece's number, offset and size, and
@@ -19,13 +19,15 @@ pub(crate) struct Take {
 }
 
 impl Take {
-    // The bytes of the piece.
-    fn bytes(self, alloc: Global) -> Result<Vec<u8>, AllocError> {
-        let mut bytes: Vec<u8> = (self.offset..self.offset.saturating_add(self.size))
-            .map(patterns::file_byte)
-            .collect(alloc)?;
-        made::turn(&mut bytes, self.at, self.bits);
-        Ok(bytes)
+    // The bytes of the piece, at the start of a space.
+    fn bytes(self, space: &mut [u8]) -> &[u8] {
+        let bytes = made::lent(space, self.size as usize);
+        let places = self.offset..self.offset.saturating_add(self.size);
+        for (byte, p) in bytes.iter_mut().zip(places) {
+            *byte = patterns::file_byte(p);
+        }
+        made::turn(bytes, self.at, self.bits);
+        bytes
     }
 
     // The rest of a line: a reception takes the piece. How many positions are held is said twice: as the library
@@ -33,16 +35,15 @@ impl Take {
     pub(crate) fn answer(
         self,
         rt: &impl Print,
-        alloc: Global,
         map: &mut [u8],
         buffer: &mut [u8],
     ) -> io::Result<()> {
-        let bytes = self.bytes(alloc)?;
+        let mut space = [0; PIECE];
         let length = self.length;
         let data = Data {
             number: self.number,
             offset: self.offset,
-            bytes: &bytes,
+            bytes: self.bytes(&mut space),
         };
         let added = Added(reception::take(File { number: 7, length }, map, buffer, data));
         print!(rt; ": {added}, {}", Sums { map, buffer })?;

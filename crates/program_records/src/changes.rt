@@ -4,7 +4,6 @@
 use crate::answers::Bytes;
 use crate::loads;
 use program_tools::made;
-use std::alloc::Global;
 use std::io;
 
 // The worked record of the paper.
@@ -26,45 +25,45 @@ const SAID: [(usize, u32); 10] = [
 ];
 
 // The lines of the first bytes of the worked record, from none to all; one more is FF, and the one behind it is zero.
-pub(crate) fn cuts(rt: &impl Print, alloc: Global) -> io::Result<()> {
+pub(crate) fn cuts(rt: &impl Print) -> io::Result<()> {
     let mut longer = [0; 45];
     octets::put(&mut longer, 0, &WORKED);
     octets::put(&mut longer, 43, b"\xFF");
     for n in 0..46 {
         print!(rt; "first {n}")?;
-        loads::tried(rt, alloc, made::first(&longer, n))?;
+        loads::tried(rt, made::first(&longer, n))?;
     }
     Ok(())
 }
 
 // The lines of six bytes at each place: 00, 01, FF, the byte that follows it in value, and the byte with bit 4
 // or bit 7 turned over, which in the last byte of the map are the first and the last spare bit.
-pub(crate) fn bytes(rt: &impl Print, alloc: Global) -> io::Result<()> {
+pub(crate) fn bytes(rt: &impl Print) -> io::Result<()> {
     for (at, b) in WORKED.iter().copied().enumerate() {
         for other in [0, 1, 255, b.wrapping_add(1), b ^ 16, b ^ 128] {
-            changed(rt, alloc, at, &[other])?;
+            changed(rt, at, &[other])?;
         }
     }
     Ok(())
 }
 
 // The lines of another number in the first field, or of another length in the second.
-pub(crate) fn numbers(rt: &impl Print, alloc: Global) -> io::Result<()> {
+pub(crate) fn numbers(rt: &impl Print) -> io::Result<()> {
     for (at, said) in SAID {
-        changed(rt, alloc, at, &said.to_le_bytes())?;
+        changed(rt, at, &said.to_le_bytes())?;
     }
     Ok(())
 }
 
 // The line of the first two fields in the other order.
-pub(crate) fn exchanged(rt: &impl Print, alloc: Global) -> io::Result<()> {
-    changed(rt, alloc, 0, b"\x02\x04\0\x14\0\0\0\x01\x04\0\x07\0\0\0")
+pub(crate) fn exchanged(rt: &impl Print) -> io::Result<()> {
+    changed(rt, 0, b"\x02\x04\0\x14\0\0\0\x01\x04\0\x07\0\0\0")
 }
 
 // The line of other bytes from a place on.
-fn changed(rt: &impl Print, alloc: Global, at: usize, run: &[u8]) -> io::Result<()> {
+fn changed(rt: &impl Print, at: usize, run: &[u8]) -> io::Result<()> {
     let mut record = WORKED;
     octets::put(&mut record, at, run);
     print!(rt; "byte {at} is{}", Bytes(run))?;
-    loads::tried(rt, alloc, &record)
+    loads::tried(rt, &record)
 }

@@ -11,21 +11,21 @@ mod maps;
 mod saves;
 mod spaces;
 
-use program_tools::ending::ended;
-use std::alloc::Global;
+use program_tools::printer::Printer;
 use std::io;
 
-fn main(rt: HostRuntime) -> io::Result<()> {
-    ended(all(&rt, rt.alloc()))
+fn main(rt: HostRuntime) {
+    // A printer answers no error.
+    let _ = all(&Printer { rt: &rt });
 }
 
 // All lines, in their order.
-fn all(rt: &impl Print, alloc: Global) -> io::Result<()> {
-    saves::faults(rt, alloc)?;
-    saves::rounds(rt, alloc)?;
-    changes::cuts(rt, alloc)?;
-    changes::bytes(rt, alloc)?;
-    changes::numbers(rt, alloc)?;
-    changes::exchanged(rt, alloc)?;
+fn all(rt: &impl Print) -> io::Result<()> {
+    saves::faults(rt)?;
+    saves::rounds(rt)?;
+    changes::cuts(rt)?;
+    changes::bytes(rt)?;
+    changes::numbers(rt)?;
+    changes::exchanged(rt)?;
     maps::all(rt)
 }

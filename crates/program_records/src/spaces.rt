@@ -2,8 +2,14 @@
 // rubbish.
 use program_tools::made;
 use reception::File;
-use std::alloc::{AllocError, Global};
 use std::fmt;
+
+// How many bytes of space there are for a map, for a buffer and for a target: more than is lent of any.
+pub(crate) const MAP: usize = 8200;
+
+pub(crate) const BUFFER: usize = 65600;
+
+pub(crate) const TARGET: usize = 73800;
 
 // What is held: no position, every one, every second, the first only, the last only, of every 40 a run from
 // 5 to 18, and the positions of the worked record.
@@ -54,9 +60,13 @@ impl Space {
         made::rubbish(at as usize, self as usize)
     }
 
-    // So many bytes of its rubbish.
-    pub(crate) fn rubbish(self, alloc: Global, size: u32) -> Result<Vec<u8>, AllocError> {
-        (0..size).map(|at| self.byte(at)).collect(alloc)
+    // So many bytes of its rubbish, at the start of a space.
+    pub(crate) fn rubbish(self, space: &mut [u8], size: u32) -> &mut [u8] {
+        let bytes = made::lent(space, size as usize);
+        for (byte, at) in bytes.iter_mut().zip(0..size) {
+            *byte = self.byte(at);
+        }
+        bytes
     }
 
     // Whether it still has its rubbish from a place on.
@@ -109,26 +119,26 @@ impl Held {
             .fold(0, |byte, bit| (byte << 1) | u8::from(bit))
     }
 
-    // So many bytes of its map, with rubbish behind its end.
-    pub(crate) fn map(self, alloc: Global, size: u32) -> Result<Vec<u8>, AllocError> {
-        let mut map = Space::SavedMap.rubbish(alloc, size)?;
+    // So many bytes of its map, with rubbish behind its end, at the start of a space.
+    pub(crate) fn map(self, space: &mut [u8], size: u32) -> &mut [u8] {
+        let map = Space::SavedMap.rubbish(space, size);
         for (byte, first) in map.iter_mut().zip((0..self.file.length).step_by(8)) {
             *byte = self.map_byte(first);
         }
-        Ok(map)
+        map
     }
 
-    // So many bytes of its buffer, with rubbish where nothing is held.
-    pub(crate) fn buffer(self, alloc: Global, size: u32) -> Result<Vec<u8>, AllocError> {
-        (0..size)
-            .map(|p| {
-                if p < self.file.length && self.holds(p) {
-                    file_byte(p)
-                } else {
-                    Space::SavedBuffer.byte(p)
-                }
-            })
-            .collect(alloc)
+    // So many bytes of its buffer, with rubbish where nothing is held, at the start of a space.
+    pub(crate) fn buffer(self, space: &mut [u8], size: u32) -> &mut [u8] {
+        let buffer = made::lent(space, size as usize);
+        for (byte, p) in buffer.iter_mut().zip(0..size) {
+            *byte = if p < self.file.length && self.holds(p) {
+                file_byte(p)
+            } else {
+                Space::SavedBuffer.byte(p)
+            };
+        }
+        buffer
     }
 }
 

@@ -14,11 +14,12 @@ mod reads;
 mod request_runs;
 mod tables;
 
+use program_tools::printer::Printer;
 use std::io;
 
 fn main(rt: HostRuntime) {
-    // Where standard output is closed there is nobody to tell.
-    let _ = all(&rt);
+    // A printer answers no error.
+    let _ = all(&Printer { rt: &rt });
 }
 
 // What the library writes and what it reads.

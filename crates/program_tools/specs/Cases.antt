@@ -84,7 +84,14 @@ differing c got =
 abbrev pub counted : Tally → Bool → Tally
 counted t differs = record { cases = (t.cases + 1) % 2 ^ 32; differ = cond differs ((t.differ + 1) % 2 ^ 32) t.differ }
 
+-- where the reading is once a case that was due is run: in a name; where none was due it goes on where it is
+abbrev pub answered_at : Place → Place
+answered_at Due = Name
+answered_at Name = Name
+answered_at Usual = Usual
+answered_at (Number cell value) = Number cell value
+
 -- behind a case that was run: it is counted, and the usual numbers hold again
 abbrev pub answered_of : Reading → List ℕ → Reading
 answered_of r got =
-    record { case = r.usual; usual = r.usual; place = Name; tally = counted r.tally (differing r.case.numbers got) }
+    record { case = r.usual; usual = r.usual; place = answered_at r.place; tally = counted r.tally (differing r.case.numbers got) }

@@ -23,16 +23,16 @@ ghost use Rattle.std.specs.Prelude.{◌≡◌, ◌+◌, ◌%◌, slice_index, ta
 ghost use Rattle.program_tools.specs.Made.{changes_of, left_of};
 ghost use Rattle.program_tools.specs.Cases.{start, next_of, name_of, number_of, ended_of, cell_of, is_shown, answered_of};
 
-use crate::ending::ended;
+use crate::input::read_full;
 use crate::made;
+use crate::printer::Printer;
 use std::io;
-use std::io::Read;
 
 // What the numbers are before a call tells them.
 pub const UNTOLD: u32 = 99;
 
 // For how many bytes of lines there is space.
-const SPACE: u64 = 32768;
+const SPACE: usize = 32768;
 
 // A cell that nobody reads.
 const NOWHERE: usize = 31;
@@ -214,7 +214,8 @@ impl Reading {
         }
     }
 
-    // Behind a case that was run: it is counted, by what was got, and the usual numbers hold again.
+    // Behind a case that was run: it is counted, by what was got, and the usual numbers hold again. Where none was due the
+    // reading goes on where it is.
     pub fn answered(self, got: [u32; 4]) -> Self
         ensures { result ≡ answered_of self got }
     {
@@ -223,9 +224,13 @@ impl Reading {
             cases: self.tally.cases.wrapping_add(1),
             differ: self.tally.differ.wrapping_add(u32::from(differs)),
         };
+        let place = match self.place {
+            Place::Due => Place::Name,
+            place => place,
+        };
         Reading {
             case: self.usual,
-            place: Place::Name,
+            place,
             tally,
             ..self
         }
@@ -255,13 +260,14 @@ pub trait Operation {
 // many differ.
 pub fn run<R, O>(rt: &R, operation: &O) -> io::Result<()>
 where
-    R: Print + Input + AllocGlobal,
+    R: Print + Input,
     O: Operation,
 {
-    let mut text = Vec::new(rt.alloc());
-    ended(rt.reader().take(SPACE).read_to_end(&mut text).map(|_| ()))?;
-    let tally = read(rt, &text, operation)?;
-    if text.len() as u64 == SPACE {
+    let mut text = [0; SPACE];
+    let n = read_full(rt.reader(), &mut text);
+    let rt = &Printer { rt };
+    let tally = read(rt, &text[..n], operation)?;
+    if n == SPACE {
         println!(rt; "the text is too long: its end was not read")?;
     }
     println!(rt; "{} cases, {} differ", tally.cases, tally.differ)

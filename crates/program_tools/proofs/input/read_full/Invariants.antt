@@ -1,6 +1,6 @@
 -- The loop's invariant: what is read is within the space, and each turn reads more.
 use Rattle.std.proofs.Common.{length, ◌-◌, ◌≤◌}
-use Rattle.program_holes.proofs.read_full.Given as goal
+use Rattle.program_tools.proofs.input.read_full.Given as goal
 
 abbrev pub invariant-loop-n : goal.invariant-loop-n
 invariant-loop-n g l = l.n ≤ length l.space
