@@ -23,7 +23,7 @@ const INPUT: usize = LARGEST + 1;
 // it to standard output, both in large blocks.
 pub fn run(rt: &(impl Input + Print)) {
     let mut input = [0; INPUT];
-    let n = read_full(rt.reader(), &mut input);
+    let n = read_full(&mut rt.reader(), &mut input);
     let mut text = [0; LONGEST_TEXT];
     if let Ok(size) = report_all(&input, n, &mut text) {
         // Where standard output is closed there is nobody to tell.

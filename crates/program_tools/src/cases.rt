@@ -264,7 +264,7 @@ where
     O: Operation,
 {
     let mut text = [0; SPACE];
-    let n = read_full(rt.reader(), &mut text);
+    let n = read_full(&mut rt.reader(), &mut text);
     let rt = &Printer { rt };
     let tally = read(rt, &text[..n], operation)?;
     if n == SPACE {

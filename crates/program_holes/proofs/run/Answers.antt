@@ -15,7 +15,7 @@ slice_bounds-text-end g c =
     let f = c.read_full-n in
     let r = c.report_all in
     let read : List ℕ = take f.result f.new.space in
-    let all = take_all (length f.new.space) read (omega (arith, f.ensures, length-take-le f.result f.new.space f.ensures)) in
+    let all = take_all (length f.new.space) read (omega (arith, f.ensures.bound, length-take-le f.result f.new.space f.ensures.bound)) in
     told_within read _ r.result _ c.in-Ok.size (r.ensures read all) c.in-Ok.is
 
 pub slice_bounds-write_all-end : goal.slice_bounds-write_all-end
@@ -23,6 +23,6 @@ slice_bounds-write_all-end g c =
     let f = c.read_full-n in
     let r = c.report_all in
     let read : List ℕ = take f.result f.new.space in
-    let all = take_all (length f.new.space) read (omega (arith, f.ensures, length-take-le f.result f.new.space f.ensures)) in
+    let all = take_all (length f.new.space) read (omega (arith, f.ensures.bound, length-take-le f.result f.new.space f.ensures.bound)) in
     let fits : c.in-Ok.size ≤ length r.new.text = told_within read _ r.result _ c.in-Ok.size (r.ensures read all) c.in-Ok.is in
     sym (length-take-le _ _ fits)
